@@ -1,31 +1,46 @@
 -- The chunks of a copy's source, and the bytes that are read of one.
-use Rattle.std.proofs.Common.{◌≡◌, ℕ, ◌+◌, ◌*◌, ◌/◌, ◌%◌, ◌==◌, ◌<◌, ◌≤◌, List, [], ◌∷◌, length, replicate, None, Some, slice_get, refl, sym, ap, ◌∙◌, arith, slice_index}
-use Rattle.access_rules.proofs.Common.{AllByRecursion, AllByRecursion-pieces_of, Chunk, Copying, Direction, Down, IsPiece, Piece, Up, bytes_of, chunk_count, chunk_of, chunks_in, chunks_of, cond_both, count_of, direction_of, gathered, gathered-pieces_of, get_or-map-range_with_len, get_or_from_slice_get, length-append, length-bytes_of, length-map-range_with_len, length-replicate, length-slice, part_of, pieces_of, source_words, words_in}
-use Rattle.access_rules.proofs.Ranges.{IsPart, parts-chunks_of}
-use Rattle.access_rules.proofs.Readings.{some_count, none_count, length-part_of}
+use Rattle.std.proofs.Common.{◌≡◌, ℕ, ◌+◌, ◌*◌, ◌/◌, ◌%◌, ◌==◌, ◌<◌, ◌≤◌, List, [], ◌∷◌, length, replicate, Option, None, Some, slice_get, option_map, refl, sym, ap, subst, ◌∙◌, arith, slice_index}
+use Rattle.access_rules.proofs.Common.{AllByRecursion, AllByRecursion-pieces_of, Chunk, Copying, Direction, IsPiece, Piece, bytes_of, chunk_count, chunk_of, chunks_in, chunks_of, cond_both, count_of, direction_of, gathered, gathered-pieces_of, get_or-map-range_with_len, get_or_from_slice_get, length-append, length-bytes_of, length-map-range_with_len, length-replicate, length-slice, part_of, pieces_of, source_words, words_in}
+use Rattle.access_rules.proofs.Ranges.{IsPart, chunk_is, parts-chunks_of}
+use Rattle.access_rules.proofs.Readings.{none_count, length-part_of}
+use Rattle.std.proofs.lemmas.Option.{slice_get_within}
+use Rattle.norec_core.{specs.Order.chunk_reading, specs.declared.call_parts.Reading.Reading}
 
 module _ (direction : Direction) (size n : ℕ) where
   pub chunk_there : (c : Chunk) → slice_get (chunks_of direction size) n ≡ Some c → (n < chunk_count size) × (c ≡ chunk_of direction size n)
   chunk_there c is =
       let f : ℕ → Chunk = chunk_of direction size in
       let few = length-map-range_with_len f 0 (chunk_count size) in
-      let there = some_count (chunks_of direction size) n c is in
+      let there = slice_get_within (chunks_of direction size) n c is in
       let within : n < chunk_count size = omega (arith, few, there) in
       (within, sym (get_or_from_slice_get (chunks_of direction size) n c (f 0) is) ∙ get_or-map-range_with_len f 0 (chunk_count size) n _ (f 0) within (omega arith))
 
   pub no_chunk : slice_get (chunks_of direction size) n ≡ None → chunk_count size ≤ n
   no_chunk is = (let few = length-map-range_with_len (chunk_of direction size) 0 (chunk_count size) in let past = none_count (chunks_of direction size) n is in omega (arith, few, past))
 
-chunk_of-within : (direction : Direction) (size n : ℕ) → n < chunk_count size → ((chunk_of direction size n).at + (chunk_of direction size n).size ≤ size) × ((chunk_of direction size n).size ≤ 32)
-chunk_of-within Up size n l = (omega arith, omega arith)
-chunk_of-within Down size n l = (omega arith, omega arith)
+-- a chunk has bytes, lies within its range, and is no wider than an access
+pub chunk_part : (direction : Direction) (size n : ℕ) (c : Chunk) → slice_get (chunks_of direction size) n ≡ Some c → IsPart size c
+chunk_part direction size n c is = (let there = chunk_there direction size n c is in subst (IsPart size) (sym there.1) (chunk_is direction size n there.0))
 
--- a chunk lies within its range, and is no wider than an access
 pub chunk_within : (direction : Direction) (size n : ℕ) (c : Chunk) → slice_get (chunks_of direction size) n ≡ Some c → (c.at + c.size ≤ size) × (c.size ≤ 32)
-chunk_within direction size n c is =
-    let there = chunk_there direction size n c is in
-    let within = chunk_of-within direction size n there.0 in
-    (omega (arith, ap (λ (x : Chunk). x.at + x.size) there.1, within.0), omega (arith, ap (λ (x : Chunk). x.size) there.1, within.1))
+chunk_within direction size n c is = (let part = chunk_part direction size n c is in (part.within, part.small))
+
+-- the one that is read next
+some_mapped : {X Y : Type 0} (f : X → Y) (o : Option X) (y : Y) → Some y ≡ option_map f o → (x : X) × (o ≡ Some x) × (y ≡ f x)
+some_mapped f None y e = absurd (cc)
+some_mapped f (Some x) y e = (x, refl, cc)
+
+pub reading_of : (k : Copying) (n : ℕ) (r : Reading) → Some r ≡ option_map (chunk_reading k n) (slice_get (chunks_in k) n) → (c : Chunk) × (slice_get (chunks_in k) n ≡ Some c) × (r ≡ chunk_reading k n c)
+reading_of k n r e = some_mapped (chunk_reading k n) (slice_get (chunks_in k) n) r e
+
+none_mapped : {X Y : Type 0} (f : X → Y) (o : Option X) → None ≡ option_map f o → o ≡ None
+none_mapped f None e = refl
+none_mapped f (Some x) e = absurd (cc)
+
+pub no_reading : (k : Copying) (n : ℕ) → None ≡ option_map (chunk_reading k n) (slice_get (chunks_in k) n) → slice_get (chunks_in k) n ≡ None
+no_reading k n e = none_mapped (chunk_reading k n) (slice_get (chunks_in k) n) e
+
+-- ## Bytes
 
 -- of any two memories as many bytes are gathered
 length-gathered-same : (m k : List ℕ) (ps : List Piece) → AllByRecursion IsPiece ps → length (gathered m ps) ≡ length (gathered k ps)

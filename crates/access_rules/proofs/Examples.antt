@@ -1,9 +1,7 @@
 -- Worked cases: the pieces of three bytes that lie in two words; chunks that are part of a range, and one that is not; a memory that a log agrees with.
 use Rattle.std.proofs.Common.{◌≡◌, ◌<◌, [], ◌∷◌, refl, arith}
 use Rattle.access_rules.proofs.Common.{pieces_of}
-use Rattle.access_rules.proofs.Overlays.{laid_over}
-use Rattle.access_rules.proofs.Ranges.{IsPart}
-use Rattle.access_rules.proofs.Writings.{AllFitIn}
+use Rattle.access_rules.{proofs.Overlays.laid_over, proofs.Ranges.IsPart, proofs.Writings.AllFitIn}
 
 -- ## Three bytes from place 6 on
 

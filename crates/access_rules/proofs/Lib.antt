@@ -5,3 +5,4 @@ pub mod Readings
 pub mod Writings
 pub mod Ranges
 pub mod CopyChunks
+pub mod ServedCalls

@@ -1,10 +1,11 @@
 -- Rows of words with values, laid over a memory.
-use Rattle.std.proofs.Common.{◌≡◌, ℕ, zero, suc, ◌+◌, ◌^◌, ◌<◌, ◌==◌, List, [], ◌∷◌, ◌++◌, length, take, replicate, None, Some, slice_get, slice_set, refl, sym, ap, subst, ◌∙◌, inl, inr, arith, slice_index}
-use Rattle.access_rules.proofs.Common.{Agrees, AllFit, AllRowsFit, AllValuesFit, AllWithin, AllWritesWithin, AreRows, IsLog, IsMemory, LogRow, Row, cases_Bool, eqb-false, length-replicate, length-set, lookup, lookup_here, lookup_there, merge, overlay, overlay-next, row_at, slice_get-set_other, slice_get-set_same, whole, write_at}
+use Rattle.std.proofs.Common.{◌≡◌, ℕ, zero, suc, ◌+◌, ◌^◌, ◌<◌, ◌==◌, List, [], ◌∷◌, ◌++◌, length, take, replicate, None, Some, slice_get, slice_set, sym, ap, subst, ◌∙◌, inl, inr, arith, slice_index}
+use Rattle.access_rules.proofs.Common.{Agrees, AllFit, AllRowsFit, AllValuesFit, AllWithin, AllWritesWithin, AreRows, IsLog, IsMemory, LogRow, Row, cases_Bool, eqb-false, get_or_from_slice_get, length-replicate, length-set, lookup, lookup_here, lookup_there, merge, overlay, overlay-next, row_at, slice_get-set_other, slice_get-set_same, whole, write_at}
 use Rattle.itm_types.specs.LogRows.{value_of, AreSingle}
 use Rattle.itm_types.proofs.LogRows.{other_word, single_cut, value_there}
 use Rattle.word_pieces.proofs.Bits.{merge-whole}
 use Rattle.itm_types.proofs.WordLists.{fit-set}
+use Rattle.std.proofs.lemmas.Option.{slice_get-get_or}
 
 -- ## The value log
 
@@ -87,14 +88,10 @@ Agrees-front m (x ∷ xs) r h = (h.0, Agrees-front m xs r h.1)
 -- ## The write set
 
 pub index_of : (m : List ℕ) (i v : ℕ) → slice_get m i ≡ Some v → slice_index m i ≡ v
-index_of [] i v e = absurd (cc)
-index_of (x ∷ xs) zero v e = cc
-index_of (x ∷ xs) (suc i) v e = index_of xs i v e
+index_of m i v e = get_or_from_slice_get m i v 0 e
 
 pub got_at : (m : List ℕ) (i : ℕ) → i < length m → slice_get m i ≡ Some (slice_index m i)
-got_at [] i l = absurd (omega arith)
-got_at (x ∷ xs) zero l = refl
-got_at (x ∷ xs) (suc i) l = got_at xs i (omega arith)
+got_at m i l = slice_get-get_or m i 0 l
 
 AllRowsFit-at : (rows : List Row) (i : ℕ) → i < length rows → AllRowsFit rows → ((write_at rows i).mask < 2 ^ 64) × ((write_at rows i).value < 2 ^ 64)
 AllRowsFit-at [] i l h = absurd (omega arith)
@@ -111,9 +108,7 @@ lookup_fits (x ∷ xs) word r h e = elim (cases_Bool (x.word == word)) [
 
 -- the row that stands at a place
 pub write_at_of : (rows : List Row) (i : ℕ) (r : Row) → slice_get rows i ≡ Some r → write_at rows i ≡ r
-write_at_of [] i r e = absurd (cc)
-write_at_of (x ∷ xs) zero r e = cc
-write_at_of (x ∷ xs) (suc i) r e = write_at_of xs i r e
+write_at_of rows i r e = get_or_from_slice_get rows i r (record { word = 0; mask = 0; value = 0 }) e
 
 pub AllWritesWithin-at : (words : ℕ) (rows : List Row) (i : ℕ) → AllWritesWithin words rows → i < length rows → (write_at rows i).word < words
 AllWritesWithin-at words [] i h l = absurd (omega arith)

@@ -19,7 +19,7 @@ pub record IsPart (size : ℕ) (c : Chunk) : Type 0 where
   pub small : c.size ≤ 32
   pub within : c.at + c.size ≤ size
 
-chunk_is : (direction : Direction) (size n : ℕ) → n < chunk_count size → IsPart size (chunk_of direction size n)
+pub chunk_is : (direction : Direction) (size n : ℕ) → n < chunk_count size → IsPart size (chunk_of direction size n)
 chunk_is Up size n l = record { some = omega arith; small = omega arith; within = omega arith }
 chunk_is Down size n l = record { some = omega arith; small = omega arith; within = omega arith }
 
@@ -55,20 +55,16 @@ words-of_range words place direction size l = words-of_chunks words place size (
 
 -- ## Chunk by chunk
 
-front : (P : Piece → Type 0) (ps qs : List Piece) → AllByRecursion P (ps ++ qs) → AllByRecursion P ps
-front P [] qs h = tt
-front P (p ∷ ps) qs h = (h.0, front P ps qs h.1)
-
-back : (P : Piece → Type 0) (ps qs : List Piece) → AllByRecursion P (ps ++ qs) → AllByRecursion P qs
-back P [] qs h = h
-back P (p ∷ ps) qs h = back P ps qs h.1
+each : (P : Piece → Type 0) (ps qs : List Piece) → AllByRecursion P (ps ++ qs) → AllByRecursion P ps × AllByRecursion P qs
+each P [] qs h = (tt, h)
+each P (p ∷ ps) qs h = (let rest = each P ps qs h.1 in ((h.0, rest.0), rest.1))
 
 of_chunk : (P : Piece → Type 0) (place : ℕ) (cs : List Chunk) (n : ℕ) (c : Chunk) → slice_get cs n ≡ Some c → AllByRecursion P (range_pieces place cs) → AllByRecursion P (pieces_of (place + c.at) c.size)
 of_chunk P place [] n c e h = absurd (cc)
 of_chunk P place (x ∷ xs) zero c e h =
     let same : x ≡ c = cc in
-    subst (λ (y : Chunk). AllByRecursion P (pieces_of (place + y.at) y.size)) same (front P (pieces_of (place + x.at) x.size) (range_pieces place xs) h)
-of_chunk P place (x ∷ xs) (suc n) c e h = of_chunk P place xs n c e (back P (pieces_of (place + x.at) x.size) (range_pieces place xs) h)
+    subst (λ (y : Chunk). AllByRecursion P (pieces_of (place + y.at) y.size)) same (each P (pieces_of (place + x.at) x.size) (range_pieces place xs) h).0
+of_chunk P place (x ∷ xs) (suc n) c e h = of_chunk P place xs n c e (each P (pieces_of (place + x.at) x.size) (range_pieces place xs) h).1
 
 -- what holds of each piece of the chunks holds of those of one chunk
 pub all_of_chunk : (P : Piece → Type 0) (place : ℕ) (cs : List Chunk) (n : ℕ) (c : Chunk) → slice_get cs n ≡ Some c → All P (range_pieces place cs) → All P (pieces_of (place + c.at) c.size)

@@ -1,6 +1,7 @@
 -- The pieces of a value go into the write set.
-use Rattle.std.proofs.Common.{◌≡◌, ℕ, ◌+◌, ◌^◌, ◌<◌, ◌≤◌, ◌*◌, ◌/◌, ◌%◌, ◌==◌, replicate, List, [], ◌∷◌, ◌++◌, drop, length, length-append, map, take, true, false, is_some, is_err, IsSome, Result, Ok, Err, IsOk, OnOk, OnErr, refl, sym, ap, subst, ◌∙◌, inl, inr, arith}
-use Rattle.access_rules.proofs.Common.{AllByRecursion, AllByRecursion-pieces_of, AllFit, AllWritesWithin, AreBytes, AreBytes-slice, AreBytes-with_slice, AreBytes-zeros, AreEmpty, AreRows, AreRows-put, AreRows-reserved, IsPiece, Piece, Row, bytes_of, bytes_of-written, cases_Bool, cond-false, cond_both, count_of, cut-reserved, drop_all, found_or_none, from_le_bytes, length-map-range_with_len, length-overlay, lookup, lookup-reserved, lookup_here, lookup_there, mask_of, mask_of-lt, ne_eqb, overlay, overlay-put, overlay-reserved, piece_of, pieces_of, put, put_all, reserved, reserved_all, reserved_new, reserved_old, row, row_with, scattered, slice, take_all, w64, with_slice, words_of-pieces_of, written}
+use Rattle.access_rules.proofs.Readings.{length-pieces_of, some_count_of}
+use Rattle.std.proofs.Common.{◌≡◌, ℕ, ◌+◌, ◌^◌, ◌<◌, ◌≤◌, ◌*◌, ◌==◌, replicate, List, [], ◌∷◌, ◌++◌, drop, length, length-append, map, take, true, false, is_some, is_err, IsSome, Result, Ok, Err, IsOk, OnOk, OnErr, refl, sym, ap, subst, ◌∙◌, inl, inr, arith}
+use Rattle.access_rules.proofs.Common.{AllByRecursion, AllByRecursion-pieces_of, AllFit, AllWritesWithin, AreBytes, AreBytes-slice, AreBytes-with_slice, AreBytes-zeros, AreEmpty, AreRows, AreRows-put, AreRows-reserved, IsPiece, Piece, Row, bytes_of, bytes_of-written, cases_Bool, cond_both, cut-reserved, drop_all, found_or_none, from_le_bytes, length-overlay, lookup, lookup-reserved, lookup_here, lookup_there, mask_of, mask_of-lt, overlay, overlay-put, overlay-reserved, pieces_of, put, put_all, reserved, reserved_all, reserved_new, reserved_old, row, row_with, scattered, slice, take_all, w64, with_slice, words_of-pieces_of, written}
 
 -- one piece more
 pub put_all_more : (rows : List Row) (ps : List Piece) (p : Piece) (bytes : List ℕ) → put_all rows (ps ++ p ∷ []) bytes ≡ put (put_all rows ps bytes) p.word (mask_of p.first p.count) (scattered p bytes)
@@ -166,7 +167,4 @@ bytes_of-put_all m rows place size bytes fit are l small b n =
 
 -- what has bytes has a piece
 pub some_pieces : (place size : ℕ) → 0 < size → 0 < length (pieces_of place size)
-some_pieces place size l =
-    let n : length (pieces_of place size) ≡ count_of place size = length-map-range_with_len (piece_of place size) (place / 8) (count_of place size) in
-    let e : count_of place size ≡ (place % 8 + size + 7) / 8 = cond-false (size == 0) 0 ((place % 8 + size + 7) / 8) (ne_eqb size 0 (λ z. omega (arith, z, l))) in
-    omega (arith, n, e, l)
+some_pieces place size l = omega (arith, length-pieces_of place size, some_count_of place size l)

@@ -2,12 +2,9 @@
 use Rattle.std.proofs.Common.{◌≡◌, ◌∙◌, ℕ, ◌+◌, ◌-◌, true, List, [], ◌∷◌, Result, Ok, IfOk, ap, refl, subst}
 use Rattle.bank.proofs.Common.{Begin, Call, Called, CalledAtMut, CanMove, Code, Commit, CommitAction, Done, HasMoved, IsMade, IsPlain, IsPlainRun, KeepsBody, Lent, Makings, Mut, MutBor, R, RECEIPT, Read, Replied as Reply, Standing, Stopped, Transfer, U8, Unmade, W, Words, Write, after, begun_at, bytes_of_number, bytes_reply, closed, deeds_of_transfer, effect, number, refusal, usual, with_action, written}
 use Rattle.std.proofs.lemmas.Result.{IfOk-weaker}
-use Rattle.itm_types.specs.declared.call.Action.{Action}
+use Rattle.itm_types.{specs.declared.call.Action.Action, specs.declared.datum.Datum.Datum, specs.Slices.slice}
 use Rattle.itm_types.specs.declared.call.ActionKind.TheVariants as kinds
-use Rattle.itm_types.specs.declared.datum.Datum.{Datum}
-use Rattle.itm_types.specs.Slices.{slice}
-use Rattle.itm_model.specs.Runs.{replies, state_after}
-use Rattle.itm_model.specs.State.{State}
+use Rattle.itm_model.{specs.Runs.replies, specs.Runs.state_after, specs.State.State}
 use Rattle.shared_words.specs.Passes.{view_of}
 use Rattle.transactions.specs.declared.failed.Failed.{Failed}
 use Rattle.transactions.specs.declared.tried.Done.{Done as Value}

@@ -38,7 +38,7 @@ pub use Rattle.shared_words.proofs.StoredWords.{after_fits, after_snoc, commits_
 pub use Rattle.shared_words.specs.Commits.{after, memory_at, Stand, StartsWith, stored}
 pub use Rattle.shared_words.specs.Passes.{cells_of, IsOver, Owns, view_of}
 pub use Rattle.shared_words.specs.Steps.{cell_of, Lawful, Loaded, Sees, StepTells, WasFound}
-pub use Rattle.shared_words.specs.Views.{freed, held, looked, noted, read, took, wrote}
+pub use Rattle.shared_words.specs.Views.{freed, held_words, looked, noted, read, took, wrote}
 pub use Rattle.shared_words.specs.declared.pass.Pass.{Pass}
 pub use Rattle.shared_words.specs.declared.view.View.{View}
 pub use Rattle.shared_words.specs.declared.words.Words.{Words}

@@ -10,4 +10,5 @@ pub mod LastLoads
 pub mod StepChains
 pub mod WordReads
 pub mod DrivenCalls
+pub mod KnownSteps
 pub mod FurtherSteps

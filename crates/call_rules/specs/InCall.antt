@@ -19,7 +19,7 @@ use Rattle.shared_words.specs.declared.view.View.{View}
 use Rattle.shared_words.specs.Commits.{StartsWith}
 use Rattle.shared_words.specs.Passes.{IsOver}
 use Rattle.shared_words.specs.Steps.{StepTells}
-use Rattle.shared_words.specs.Views.{held}
+use Rattle.shared_words.specs.Views.{held_words}
 use Rattle.call_rules.specs.Ties.{IsTied, Stands}
 use Rattle.call_rules.specs.Served.{Start, LoadedLast, Went, Served}
 
@@ -31,9 +31,9 @@ pub record Grew (s : Start) (v : View) (e : Core) : Type 0 where
 
 -- in an irrevocable transaction, what the call will come to over the words that are held
 pub record HeldOn (s : Start) (v : View) (e : Core) : Type 0 where
-  pub leaves_it : leaves e (held v) ≡ after s.engine.depth (stands_for s.engine (held s.view)) s.call
-  pub answers_it : answers e (held v) ≡ reply s.engine.depth (stands_for s.engine (held s.view)) s.call
-  pub got : (word value : ℕ) → e.waits ≡ Some (Store (suc word) value) → Got e.got (slice_get (held v) word)
+  pub leaves_it : leaves e (held_words v) ≡ after s.engine.depth (stands_for s.engine (held_words s.view)) s.call
+  pub answers_it : answers e (held_words v) ≡ reply s.engine.depth (stands_for s.engine (held_words s.view)) s.call
+  pub got : (word value : ℕ) → e.waits ≡ Some (Store (suc word) value) → Got e.got (slice_get (held_words v) word)
 
 -- what an engine is outside a transaction
 pub record IsShut (e : Core) : Type 0 where

@@ -19,7 +19,7 @@ use Rattle.norec_core.specs.Effects.{recoded, room_left}
 use Rattle.norec_core.specs.Stands.{stands_for}
 use Rattle.shared_words.specs.declared.view.View.{View}
 use Rattle.shared_words.specs.Commits.{StartsWith}
-use Rattle.shared_words.specs.Views.{held}
+use Rattle.shared_words.specs.Views.{held_words}
 use Rattle.call_rules.specs.Ties.{memory_of}
 
 -- a call as it came, with the view and the engine of that moment
@@ -39,7 +39,7 @@ pub record Went (old new : View) : Type 0 where
 
 -- the memory that an engine stands over: in an irrevocable transaction the words as its own stores have left them, else those of its position
 abbrev pub memory_in : Bool → View → View → ℕ → List ℕ
-memory_in true holder v k = held holder
+memory_in true holder v k = held_words holder
 memory_in false holder v k = memory_of v k
 
 -- the memory over which the call came, where it left the snapshot at this view's position

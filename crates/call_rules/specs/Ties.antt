@@ -3,7 +3,7 @@ use Rattle.std.specs.Prelude.{◌≡◌, ℕ, suc, ◌/◌, ◌≤◌, true, fal
 use Rattle.itm_types.specs.Memory.{Agrees}
 use Rattle.shared_words.specs.declared.view.View.{View}
 use Rattle.shared_words.specs.Commits.{after, memory_at, Stand}
-use Rattle.shared_words.specs.Views.{held}
+use Rattle.shared_words.specs.Views.{held_words}
 use Rattle.shared_words.specs.Passes.{IsOver}
 use Rattle.norec_core.specs.Core.{Core, in_transaction}
 use Rattle.norec_core.specs.Proceeds.{backed, Got, IsSettled}
@@ -24,8 +24,8 @@ IsFresh v e = (m : List ℕ) → length m ≡ e.words → Stand m v.fresh → Ag
 
 -- the clock is held by a transaction that is not irrevocable yet, and the rows so far are stored
 pub record IsHolding (v : View) (e : Core) : Type 0 where
-  pub laid : held v ≡ backed e (after v.base v.seen)
-  pub got : Got e.got (slice_get (held v) (write_at e.writes e.done).word)
+  pub laid : held_words v ≡ backed e (after v.base v.seen)
+  pub got : Got e.got (slice_get (held_words v) (write_at e.writes e.done).word)
 
 -- between two steps
 pub record IsTied (v : View) (e : Core) : Type 0 where

@@ -3,4 +3,3 @@ pub mod ActorLimits
 pub mod CommitCounts
 pub mod SeenMemories
 pub mod LaidWords
-pub mod OutrunConflicts

@@ -1,9 +1,7 @@
 -- Worked cases: the try that comes next after a lost update, and one that does not; a world that has no actors.
 use Rattle.std.proofs.Common.{[], ◌∷◌, refl, arith, replicate, true}
 use Rattle.event_rules.proofs.Common.{Actor, AreActors, IsTry, IsWorld, Outside, Ready, Rows, World, opening}
-use Rattle.event_rules.proofs.Commits.CommitCounts.{commits_first}
-use Rattle.event_rules.proofs.Runs.Others.{laid_first}
-use Rattle.event_rules.proofs.Tries.Dates.{dated_first}
+use Rattle.event_rules.{proofs.Commits.CommitCounts.commits_first, proofs.Runs.Others.laid_first, proofs.Tries.Dates.dated_first}
 use Rattle.world_rules.proofs.Examples.{Counter, at_step, counter_rules, lost, other, retried}
 
 -- ## The counter whose first try was lost, once both counters' first tries have ended

@@ -1,7 +1,5 @@
 -- The room of an irrevocable transaction: for its calls, and for the actions that come to run.
 pub mod LaterActions
-pub mod HeldRoom
-pub mod CallRoom
 pub mod ActionRoom
 pub mod RecordedRoom
 pub mod FedPlayers

@@ -4,9 +4,8 @@ unfoldable pub use Rattle.history_picture.specs.Picture.{bar_back, bar_front, ce
 pub use Rattle.history_picture.specs.Picture.{bar_text, call_at, looks_text, note_text, seat_at, seat_in, seats_text, width_of}
 pub use Rattle.history_picture.specs.Seats.{comes_before, seat_of, seats_from}
 pub use Rattle.history_picture.specs.declared.seats.Seat.{Seat}
-pub use Rattle.picture_parts.proofs.Texts.{more_texts, puts_then, texts_stop, three, three_cut_first, three_cut_second, two_cut_first}
+pub use Rattle.picture_parts.proofs.Texts.{more_texts, puts_cut, puts_then, texts_stop, three, three_cut_first, three_cut_second, two_cut_first}
 pub use Rattle.picture_parts.specs.Looks.{colours_text, front_text, style_text}
 pub use Rattle.tx_attempts.specs.declared.attempt.Attempt.{Attempt}
 pub use Rattle.tx_history.proofs.TextPieces.{put_as}
-pub use Rattle.std.proofs.lemmas.Result.{err_from_is_err_and}
 pub use Rattle.std.specs.List.Sorted.{IsPermutation, IsSortedBy}

@@ -7,7 +7,7 @@ ghost use Rattle.history_picture.specs.Picture.{body_of, foot_text, head_text, l
 use crate::bars::put_seat;
 use crate::note::Note;
 use crate::seats::Seat;
-use crate::words::put_note;
+use crate::sentences::put_note;
 use picture_parts::{colours, put_front, put_lanes, put_text, style};
 use std::io;
 use std::io::Write;

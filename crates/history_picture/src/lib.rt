@@ -8,7 +8,7 @@ mod columns;
 mod drawing;
 mod note;
 mod seats;
-mod words;
+mod sentences;
 
 pub use columns::columns_of;
 pub use drawing::put_history;

@@ -65,7 +65,7 @@ pub use Rattle.script_fields.specs.Operands.{both, decoded, exactly, is_hex, or_
 pub use Rattle.script_fields.specs.Properties.{props_text}
 pub use Rattle.script_fields.specs.Spelling.{mode_text, no_transaction_text, scope_text}
 pub use Rattle.script_fields.specs.Text.{is_feed, is_field_byte, IsField, joined}
-pub use Rattle.script_fields.specs.declared.fault.AsmKind.{AsmKind}
+pub use Rattle.script_fields.specs.declared.fault.FaultKind.{FaultKind}
 pub use Rattle.tx_attempts.specs.Attempts.{alone, ByAbort, ByCommit, ClosedBy, committed_at, is_at, is_committed, memory_after, memory_left}
 pub use Rattle.tx_attempts.specs.Counts.{count_at, count_committed, one_where}
 pub use Rattle.tx_attempts.specs.Restarts.{again_at, AreAgain, arena_set, AtEach, breaks_of, IsAgain, IsInnerBegin}
@@ -74,7 +74,6 @@ pub use Rattle.tx_attempts.specs.declared.attempt.Attempt.{Attempt}
 pub use Rattle.tx_attempts.specs.declared.attempt.CallRecord.{CallRecord}
 pub use Rattle.tx_attempts.specs.declared.attempt.Outcome.{Outcome}
 pub use Rattle.tx_attempts.specs.declared.attempt.Outcome.TheVariants.{Cancelled, Committed, ReadOnly}
-pub use Rattle.tx_history.proofs.PlainSizes.{later_none, length-slice, sized_at}
 pub use Rattle.tx_history.proofs.SameDepths.{near_is, same_depth}
 pub use Rattle.tx_history.specs.Bounds.{AgainFits, AreLimited, AttemptFits, CallFits, EntryFits, HasArenaWidth, HistoryFits, IsArenaWidth, IsDatum, IsLimited, IsWord, ReplyFits}
 pub use Rattle.tx_history.specs.Depths.{depth_from}

@@ -1,7 +1,7 @@
 -- A line of the first two versions says what it said before there were others.
 use Rattle.std.proofs.Common.{◌≡◌, ℕ, Bool, true, false, cond, List, [], ◌∷◌, ◌++◌, length, Result, Ok, Err, refl, ap, ◌∙◌, codes, bytes_eq}
-use Rattle.history_reader.proofs.Common.{AsmKind, Behind, CallRecord, Head, IfOk, One, Place, State, Two, Version, after_if, again_or_later, arena_of, behind_call, between_line, call_of, call_or_later, choice_if, early_behind, early_call, early_head, early_later, early_line, early_memory, early_placed, end_line, exactly, fields, final_line, final_of, head_of, later_line, meaning, memory_limit, memory_line, memory_of, next, none, placed, ran_of, restart_of, restart_said as restart_line, thread_limit, told, undone_of, ◌>>=◌}
-use Rattle.script_fields.specs.declared.fault.AsmKind.TheVariants as operands
+use Rattle.history_reader.proofs.Common.{FaultKind, Behind, CallRecord, Head, IfOk, One, Place, State, Two, Version, after_if, again_or_later, arena_of, behind_call, between_line, call_of, call_or_later, choice_if, early_behind, early_call, early_head, early_later, early_line, early_memory, early_placed, end_line, exactly, fields, final_line, final_of, head_of, later_line, meaning, memory_limit, memory_line, memory_of, next, none, placed, ran_of, restart_of, restart_said as restart_line, thread_limit, told, undone_of, ◌>>=◌}
+use Rattle.script_fields.specs.declared.fault.FaultKind.TheVariants as operands
 use Rattle.history_reader.specs.declared.state.Behind.TheVariants as behinds
 use Rattle.history_reader.specs.declared.state.Place.TheVariants as places
 use Rattle.history_reader.specs.Lines.{arena_line, call_line, head_line, ran_line, undone_line}
@@ -63,7 +63,7 @@ call_same : (again : Bool) (s : State) (h : Head) (fs : List (List ℕ)) → s.v
 unfolding call_line early_call
 call_same again s h fs v =
     let same : (e : CallRecord) → behind_call s.version e ≡ early_behind again e = λ e. ap (λ (version : Version). behind_call version e) v ∙ behind_is again e in
-    ap (λ (f : CallRecord → Result State AsmKind). call_of fs >>= f) (λ i e. Ok (record s { place = places.InCalls h (same e i); calls = s.calls ++ e ∷ [] }))
+    ap (λ (f : CallRecord → Result State FaultKind). call_of fs >>= f) (λ i e. Ok (record s { place = places.InCalls h (same e i); calls = s.calls ++ e ∷ [] }))
 
 later_same : (again : Bool) (b : Behind) (s : State) (h : Head) (word : List ℕ) (fs : List (List ℕ)) → IsEarlyBehind again b → again_or_later b s h word fs ≡ early_later again b s h word fs
 unfolding again_or_later
@@ -76,10 +76,10 @@ placed_same again places.AtHeader s word fs v f = absurd f
 placed_same again places.AtDepth s word fs v f = absurd f
 placed_same again places.AtMemory s word fs v f = memory_same again s word fs v
 placed_same again places.Between s word fs v f =
-    ap (λ (r : Result State AsmKind). cond (bytes_eq word (codes "attempt")) r (cond (bytes_eq word (codes "final")) (final_line s fs) (Err operands.Operand))) (head_same again s fs v)
+    ap (λ (r : Result State FaultKind). cond (bytes_eq word (codes "attempt")) r (cond (bytes_eq word (codes "final")) (final_line s fs) (Err operands.Operand))) (head_same again s fs v)
 placed_same again (places.AtArena h) s word fs v f = refl
 placed_same again (places.InCalls h b) s word fs v f =
-    ap (λ (r : Result State AsmKind). cond (bytes_eq word (codes "call")) r (again_or_later b s h word fs)) (call_same again s h fs v)
+    ap (λ (r : Result State FaultKind). cond (bytes_eq word (codes "call")) r (again_or_later b s h word fs)) (call_same again s h fs v)
     ∙ ap (cond (bytes_eq word (codes "call")) (early_call again s h fs)) (later_same again b s h word fs f)
 placed_same again (places.InRan h) s word fs v f = refl
 placed_same again (places.AtEnd clock) s word fs v f = refl
@@ -93,7 +93,7 @@ line_by_place again p s line at f = rw at refl
 pub line_same : (again : Bool) (s : State) (line : List ℕ) → IsEarly again s → meaning s line ≡ early_line again s line
 line_same again s line h =
     line_by_place again s.place s line refl h.place
-    ∙ ap (λ (f : List ℕ × List (List ℕ) → Result State AsmKind). told (next (fields line) >>= f)) (λ i x. placed_same again s.place s x.0 x.1 h.version h.place i)
+    ∙ ap (λ (f : List ℕ × List (List ℕ) → Result State FaultKind). told (next (fields line) >>= f)) (λ i x. placed_same again s.place s x.0 x.1 h.version h.place i)
 
 -- ## It leaves a state of such a version
 

@@ -2,7 +2,7 @@
 use Rattle.std.proofs.Common.{◌≡◌, [], ◌∷◌, false, Ok, Err, refl, codes}
 use Rattle.history_reader.proofs.Common.{Abort, Begin, Code, Commit, Done, Head, One, Props, Ran, ReadOnly, Refused, State, TooDeep, Two, again_or_later, behind_call, call_or_later, initial, later_line, meaning, placed, restart_bytes, with_undone}
 use Rattle.itm_types.specs.declared.call.ActionKind.TheVariants.{Undo}
-use Rattle.script_fields.specs.declared.fault.AsmKind.TheVariants as operands
+use Rattle.script_fields.specs.declared.fault.FaultKind.TheVariants as operands
 use Rattle.history_reader.specs.declared.fault.ReadKind.TheVariants as kinds
 use Rattle.history_reader.specs.declared.state.Behind.TheVariants as behinds
 use Rattle.history_reader.specs.declared.state.Place.TheVariants as places

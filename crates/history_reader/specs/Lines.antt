@@ -5,8 +5,8 @@ use Rattle.itm_types.specs.declared.call.ActionKind.TheVariants.{Undo}
 use Rattle.itm_types.specs.declared.call.Props.{Props}
 use Rattle.itm_types.specs.declared.call.Ran.{Ran}
 use Rattle.itm_types.specs.declared.limits.Depth.{Depth}
-use Rattle.script_fields.specs.declared.fault.AsmKind.{AsmKind}
-use Rattle.script_fields.specs.declared.fault.AsmKind.TheVariants as operands
+use Rattle.script_fields.specs.declared.fault.FaultKind.{FaultKind}
+use Rattle.script_fields.specs.declared.fault.FaultKind.TheVariants as operands
 use Rattle.script_fields.specs.Operands.{◌>>=◌, both, number, function, exactly}
 use Rattle.tx_attempts.specs.declared.attempt.Again.{Again}
 use Rattle.tx_attempts.specs.declared.attempt.CallRecord.{CallRecord}
@@ -36,46 +36,46 @@ initial = record { place = places.AtHeader; version = One; memory = []; attempts
 
 -- ## The fields behind the first one
 
-unfoldable pub depth_of : List (List ℕ) → Result Depth AsmKind
+unfoldable pub depth_of : List (List ℕ) → Result Depth FaultKind
 depth_of fs = one fs >>= depth
 
-unfoldable pub memory_of : ℕ → List (List ℕ) → Result (List ℕ) AsmKind
+unfoldable pub memory_of : ℕ → List (List ℕ) → Result (List ℕ) FaultKind
 memory_of limit fs = one fs >>= memory_bytes limit
 
-unfoldable pub arena_of : List (List ℕ) → Result (List ℕ) AsmKind
+unfoldable pub arena_of : List (List ℕ) → Result (List ℕ) FaultKind
 arena_of fs = one fs >>= arena_bytes
 
 -- a thread, the try of its block and where it stands
-abbrev pub try_of : ℕ → List ℕ → List ℕ → List ℕ → Result (ℕ × (ℕ × ℕ)) AsmKind
+abbrev pub try_of : ℕ → List ℕ → List ℕ → List ℕ → Result (ℕ × (ℕ × ℕ)) FaultKind
 try_of last a b c = both (thread last a) (both (nth b) (number c))
 
 -- how it ended, and the properties of its block
-abbrev pub outcome_of : List ℕ → List ℕ → Result (Outcome × Props) AsmKind
+abbrev pub outcome_of : List ℕ → List ℕ → Result (Outcome × Props) FaultKind
 outcome_of a b = both (outcome a) (block_props b)
 
-unfoldable pub head_of : ℕ → List (List ℕ) → Result Head AsmKind
+unfoldable pub head_of : ℕ → List (List ℕ) → Result Head FaultKind
 head_of limit fs =
     next_three fs >>= λ x. next x.3 >>= λ y. one y.1 >>= λ last. both (try_of limit x.0 x.1 x.2) (outcome_of y.0 last)
     >>= λ r. Ok (record { thread = r.0.0; nth = r.0.1.0; at = r.0.1.1; outcome = r.1.0; props = r.1.1 })
 
 -- an action that ran: its kind, its function and its argument
-unfoldable pub ran_of : List (List ℕ) → Result Ran AsmKind
+unfoldable pub ran_of : List (List ℕ) → Result Ran FaultKind
 ran_of fs =
     next_three fs >>= λ x. none x.3 >>= λ _. both (kind x.0) (both (function x.1) (number x.2))
     >>= λ r. Ok (record { kind = r.0; action = record { fun = r.1.0; arg = r.1.1 } })
 
 -- an action that had run in a block before it ran again: its function and its argument
-unfoldable pub undone_of : List (List ℕ) → Result Ran AsmKind
+unfoldable pub undone_of : List (List ℕ) → Result Ran FaultKind
 undone_of fs =
     next fs >>= λ x. one x.1 >>= λ last. both (function x.0) (number last)
     >>= λ r. Ok (record { kind = Undo; action = record { fun = r.0; arg = r.1 } })
 
 -- the arena from which a block ran again, of so many bytes
-unfoldable pub restart_of : ℕ → List (List ℕ) → Result (List ℕ) AsmKind
+unfoldable pub restart_of : ℕ → List (List ℕ) → Result (List ℕ) FaultKind
 restart_of size fs = one fs >>= restart_bytes size
 
 -- the clock and so many bytes
-unfoldable pub final_of : ℕ → List (List ℕ) → Result (ℕ × List ℕ) AsmKind
+unfoldable pub final_of : ℕ → List (List ℕ) → Result (ℕ × List ℕ) FaultKind
 final_of size fs = next fs >>= λ x. one x.1 >>= λ last. both (number x.0) (sized size last)
 
 -- ## Lines
@@ -102,19 +102,19 @@ ended s h = record s {
   ran = [];
 }
 
-unfoldable pub depth_line : State → List ℕ → List (List ℕ) → Result State AsmKind
+unfoldable pub depth_line : State → List ℕ → List (List ℕ) → Result State FaultKind
 depth_line s word fs = exactly (codes "depth") word >>= λ _. depth_of fs >>= λ d. Ok (record s { place = places.AtMemory; version = Three d })
 
-unfoldable pub memory_line : State → List ℕ → List (List ℕ) → Result State AsmKind
+unfoldable pub memory_line : State → List ℕ → List (List ℕ) → Result State FaultKind
 memory_line s word fs = exactly (codes "memory") word >>= λ _. memory_of (memory_limit s.version) fs >>= λ bytes. Ok (record s { place = places.Between; memory = bytes })
 
-unfoldable pub head_line : State → List (List ℕ) → Result State AsmKind
+unfoldable pub head_line : State → List (List ℕ) → Result State FaultKind
 head_line s fs = head_of (thread_limit s.version) fs >>= λ h. Ok (record s { place = places.AtArena h })
 
-unfoldable pub final_line : State → List (List ℕ) → Result State AsmKind
+unfoldable pub final_line : State → List (List ℕ) → Result State FaultKind
 final_line s fs = final_of (length s.memory) fs >>= λ x. Ok (record s { place = places.AtEnd x.0; bytes = x.1 })
 
-unfoldable pub arena_line : State → Head → List ℕ → List (List ℕ) → Result State AsmKind
+unfoldable pub arena_line : State → Head → List ℕ → List (List ℕ) → Result State FaultKind
 arena_line s h word fs = exactly (codes "arena") word >>= λ _. arena_of fs >>= λ bytes. Ok (record s { place = places.InCalls h behinds.Call; arena = bytes })
 
 -- a block within another was entered
@@ -127,11 +127,11 @@ behind_call One e = behinds.Call
 behind_call Two e = if is_entered e then behinds.Begin else behinds.Call
 behind_call (Three d) e = if is_entered e then behinds.Begin else behinds.Call
 
-unfoldable pub call_line : State → Head → List (List ℕ) → Result State AsmKind
+unfoldable pub call_line : State → Head → List (List ℕ) → Result State FaultKind
 call_line s h fs = call_of fs >>= λ e. Ok (record s { place = places.InCalls h (behind_call s.version e); calls = s.calls ++ e ∷ [] })
 
 -- the block ran again whose begin is the last call
-unfoldable pub restart_line : State → Head → List (List ℕ) → Result State AsmKind
+unfoldable pub restart_line : State → Head → List (List ℕ) → Result State FaultKind
 restart_line s h fs =
     restart_of (length s.arena) fs
     >>= λ bytes. Ok (record s { place = places.InCalls h behinds.Restart; restarts = s.restarts ++ record { kept = length s.calls; arena = bytes; undone = [] } ∷ [] })
@@ -142,37 +142,37 @@ with_undone [] r = []
 with_undone (a ∷ []) r = record a { undone = a.undone ++ r ∷ [] } ∷ []
 with_undone (a ∷ b ∷ rest) r = a ∷ with_undone (b ∷ rest) r
 
-unfoldable pub undone_line : State → List (List ℕ) → Result State AsmKind
+unfoldable pub undone_line : State → List (List ℕ) → Result State FaultKind
 undone_line s fs = undone_of fs >>= λ r. Ok (record s { restarts = with_undone s.restarts r })
 
-unfoldable pub ran_line : State → Head → List (List ℕ) → Result State AsmKind
+unfoldable pub ran_line : State → Head → List (List ℕ) → Result State FaultKind
 ran_line s h fs = ran_of fs >>= λ r. Ok (record s { place = places.InRan h; ran = s.ran ++ r ∷ [] })
 
-unfoldable pub end_line : State → Head → List (List ℕ) → Result State AsmKind
+unfoldable pub end_line : State → Head → List (List ℕ) → Result State FaultKind
 end_line s h fs = none fs >>= λ _. Ok (ended s h)
 
 -- a new attempt, or the last line
-unfoldable pub between_line : State → List ℕ → List (List ℕ) → Result State AsmKind
+unfoldable pub between_line : State → List ℕ → List (List ℕ) → Result State FaultKind
 between_line s word fs =
     if bytes_eq word (codes "attempt") then head_line s fs else if bytes_eq word (codes "final") then final_line s fs else Err operands.Operand
 
 -- an action that ran, or the attempt's end
-unfoldable pub later_line : State → Head → List ℕ → List (List ℕ) → Result State AsmKind
+unfoldable pub later_line : State → Head → List ℕ → List (List ℕ) → Result State FaultKind
 later_line s h word fs =
     if bytes_eq word (codes "ran") then ran_line s h fs else if bytes_eq word (codes "end") then end_line s h fs else Err operands.Operand
 
 -- or that a block ran again, right behind its begin, and then an action that had run in it before
-unfoldable pub again_or_later : Behind → State → Head → List ℕ → List (List ℕ) → Result State AsmKind
+unfoldable pub again_or_later : Behind → State → Head → List ℕ → List (List ℕ) → Result State FaultKind
 again_or_later behinds.Call s h word fs = later_line s h word fs
 again_or_later behinds.Begin s h word fs = if bytes_eq word (codes "restart") then restart_line s h fs else later_line s h word fs
 again_or_later behinds.Restart s h word fs = if bytes_eq word (codes "undone") then undone_line s fs else later_line s h word fs
 
 -- or a call
-unfoldable pub call_or_later : Behind → State → Head → List ℕ → List (List ℕ) → Result State AsmKind
+unfoldable pub call_or_later : Behind → State → Head → List ℕ → List (List ℕ) → Result State FaultKind
 call_or_later b s h word fs = if bytes_eq word (codes "call") then call_line s h fs else again_or_later b s h word fs
 
 -- what fields say by where they stand
-unfoldable pub placed : Place → State → List ℕ → List (List ℕ) → Result State AsmKind
+unfoldable pub placed : Place → State → List ℕ → List (List ℕ) → Result State FaultKind
 placed places.AtHeader s word fs = Err operands.Operand
 placed places.AtDepth s word fs = depth_line s word fs
 placed places.AtMemory s word fs = memory_line s word fs

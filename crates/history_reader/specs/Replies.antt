@@ -5,7 +5,7 @@ use Rattle.itm_types.specs.declared.call.Refusal.{Refusal}
 use Rattle.itm_types.specs.declared.call.Refusal.TheVariants as refusals
 use Rattle.itm_types.specs.declared.call.Reply.{Reply}
 use Rattle.itm_types.specs.declared.call.Reply.TheVariants as replies
-use Rattle.script_fields.specs.declared.fault.AsmKind.{AsmKind}
+use Rattle.script_fields.specs.declared.fault.FaultKind.{FaultKind}
 use Rattle.script_fields.specs.Operands.{◌>>=◌, both, exactly}
 use Rattle.history_reader.specs.declared.reply.ReplyKind.{ReplyKind}
 use Rattle.history_reader.specs.declared.reply.ReplyKind.TheVariants as answers
@@ -26,21 +26,21 @@ refusal_of n =
     else refusals.TooDeep
 
 -- why a call is refused
-unfoldable pub refused : List (List ℕ) → Result Reply AsmKind
+unfoldable pub refused : List (List ℕ) → Result Reply FaultKind
 refused fs = one fs >>= λ f. ranged 1 8 f >>= λ n. Ok (replies.Refused (refusal_of n))
 
 -- a reply of the kind that the call has, told from its first field on
-unfoldable pub accepted : ReplyKind → List ℕ → List (List ℕ) → Result Reply AsmKind
+unfoldable pub accepted : ReplyKind → List ℕ → List (List ℕ) → Result Reply FaultKind
 accepted answers.Done f fs = exactly (codes "ok") f >>= λ _. none fs >>= λ _. Ok replies.Done
 accepted answers.Code f fs = exactly (codes "code") f >>= λ _. one fs >>= λ n. byte n >>= λ c. Ok (replies.Code c)
 accepted (answers.Bytes width) f fs = none fs >>= λ _. sized (size_of width) f >>= λ bytes. Ok (replies.Bytes (record { items = bytes }))
 
 -- the reply of a call: any may be refused
-unfoldable pub reply_of : ReplyKind → List (List ℕ) → Result Reply AsmKind
+unfoldable pub reply_of : ReplyKind → List (List ℕ) → Result Reply FaultKind
 reply_of answer fs = next fs >>= λ x. if bytes_eq x.0 (codes "refused") then refused x.1 else accepted answer x.0 x.1
 
 -- operands, and the reply that stands behind them
-abbrev pub with_reply : {A : Type 0} → Result A AsmKind → ReplyKind → List (List ℕ) → Result (A × Reply) AsmKind
+abbrev pub with_reply : {A : Type 0} → Result A FaultKind → ReplyKind → List (List ℕ) → Result (A × Reply) FaultKind
 with_reply operands answer fs = equals fs >>= λ rest. both operands (reply_of answer rest)
 
 -- the answer of the begin of a block that is entered

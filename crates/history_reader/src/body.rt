@@ -13,11 +13,11 @@ use crate::reply::ReplyKind;
 use crate::verb::{Verb, verb_of};
 use itm_entries::{Control, Entry as Point};
 use itm_types::{Action, Call, Copying};
-use script_fields::AsmKind;
+use script_fields::FaultKind;
 use tx_attempts::CallRecord;
 
 #[tactic(auto, unfolding(crate::specs::Calls::control_call))]
-fn control_call(control: Control, rest: Option<&[u8]>) -> Result<CallRecord, AsmKind>
+fn control_call(control: Control, rest: Option<&[u8]>) -> Result<CallRecord, FaultKind>
     ensures { result ≡ control_call control (rest_fields rest.entry) }
 {
     match control {
@@ -64,7 +64,7 @@ fn control_call(control: Control, rest: Option<&[u8]>) -> Result<CallRecord, Asm
 }
 
 #[tactic(auto, unfolding(crate::specs::Calls::point_call))]
-fn point_call(point: Point, rest: Option<&[u8]>) -> Result<CallRecord, AsmKind>
+fn point_call(point: Point, rest: Option<&[u8]>) -> Result<CallRecord, FaultKind>
     ensures { result ≡ point_call point (rest_fields rest.entry) }
 {
     match point {
@@ -115,7 +115,7 @@ fn point_call(point: Point, rest: Option<&[u8]>) -> Result<CallRecord, AsmKind>
 }
 
 #[tactic(auto, unfolding(crate::specs::Calls::verb_call))]
-fn verb_call(verb: Verb, rest: Option<&[u8]>) -> Result<CallRecord, AsmKind>
+fn verb_call(verb: Verb, rest: Option<&[u8]>) -> Result<CallRecord, FaultKind>
     ensures { result ≡ verb_call verb (rest_fields rest.entry) }
 {
     match verb {
@@ -135,10 +135,10 @@ fn verb_call(verb: Verb, rest: Option<&[u8]>) -> Result<CallRecord, AsmKind>
 
 /// A call and its reply.
 #[tactic(auto, unfolding(crate::specs::Calls::call_of))]
-pub fn call_of(rest: Option<&[u8]>) -> Result<CallRecord, AsmKind>
+pub fn call_of(rest: Option<&[u8]>) -> Result<CallRecord, FaultKind>
     ensures { result ≡ call_of (rest_fields rest.entry) }
 {
     let (name, rest) = next_field(rest)?;
-    let verb = verb_of(name).ok_or(AsmKind::Operand)?;
+    let verb = verb_of(name).ok_or(FaultKind::Operand)?;
     verb_call(verb, rest)
 }

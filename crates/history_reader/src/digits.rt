@@ -8,7 +8,7 @@ ghost use Rattle.history_reader.specs.Digits.{is_lower_digit, is_lower_hex, byte
 
 use hex::{decode, decode_to_slice};
 use itm_types::{Datum, MAX_ARENA, Value, Width};
-use script_fields::AsmKind;
+use script_fields::FaultKind;
 use std::alloc::{AllocError, Global};
 
 fn has_lower_digits(field: &[u8]) -> bool
@@ -24,24 +24,24 @@ fn is_lower_hex(field: &[u8]) -> bool
 }
 
 /// The digits, where they have the form and are as many as may be.
-fn digits_if(fits: bool, field: &[u8]) -> Result<&[u8], AsmKind>
+fn digits_if(fits: bool, field: &[u8]) -> Result<&[u8], FaultKind>
     ensures value { Sees (λ x. decoded x.now) result (bytes_if fits field.now) }
     ensures same { IfOk result (λ x. x.now ≡ field.now) }
     ensures hex { IfOk result (λ x. is_lower_hex x.now ≡ true) }
     ensures fits { IfOk result (λ x. fits ≡ true) }
 {
     if !is_lower_hex(field) {
-        return Err(AsmKind::Operand);
+        return Err(FaultKind::Operand);
     }
     if !fits {
-        return Err(AsmKind::Range);
+        return Err(FaultKind::Range);
     }
     Ok(field)
 }
 
 /// The digits of so many bytes.
 #[tactic(auto, unfolding(crate::specs::Digits::sized))]
-pub fn sized(size: usize, field: &[u8]) -> Result<&[u8], AsmKind>
+pub fn sized(size: usize, field: &[u8]) -> Result<&[u8], FaultKind>
     ensures value { Sees (λ x. decoded x.now) result (sized size field.now) }
     ensures hex { IfOk result (λ x. is_lower_hex x.now ≡ true) }
     ensures count { IfOk result (λ x. length x.now / 2 ≡ size) }
@@ -51,7 +51,7 @@ pub fn sized(size: usize, field: &[u8]) -> Result<&[u8], AsmKind>
 
 /// The digits of a memory: of 8 bytes or more, no more than the limit, and in whole words.
 #[tactic(auto, unfolding(crate::specs::Digits::memory_bytes))]
-pub fn memory_digits(limit: usize, field: &[u8]) -> Result<&[u8], AsmKind>
+pub fn memory_digits(limit: usize, field: &[u8]) -> Result<&[u8], FaultKind>
     requires { 2 * limit < 2 ^ 64 }
     ensures value { Sees (λ x. decoded x.now) result (memory_bytes limit field.now) }
     ensures hex { IfOk result (λ x. is_lower_hex x.now ≡ true) }
@@ -62,7 +62,7 @@ pub fn memory_digits(limit: usize, field: &[u8]) -> Result<&[u8], AsmKind>
 
 /// The digits of an arena, where it has bytes.
 #[tactic(auto, unfolding(crate::specs::Digits::arena_bytes))]
-pub fn arena_digits(field: &[u8]) -> Result<Option<&[u8]>, AsmKind>
+pub fn arena_digits(field: &[u8]) -> Result<Option<&[u8]>, FaultKind>
     ensures value { Sees arena_of result (arena_bytes field.now) }
     ensures hex { IfOk result AreLowerHex }
 {
@@ -74,7 +74,7 @@ pub fn arena_digits(field: &[u8]) -> Result<Option<&[u8]>, AsmKind>
 
 /// The digits of the arena from which a block runs again, which has so many bytes, where it has any.
 #[tactic(auto, unfolding(crate::specs::Digits::restart_bytes))]
-pub fn restart_digits(size: usize, field: &[u8]) -> Result<Option<&[u8]>, AsmKind>
+pub fn restart_digits(size: usize, field: &[u8]) -> Result<Option<&[u8]>, FaultKind>
     ensures value { Sees arena_of result (restart_bytes size field.now) }
     ensures hex { IfOk result AreLowerHex }
 {
@@ -84,7 +84,7 @@ pub fn restart_digits(size: usize, field: &[u8]) -> Result<Option<&[u8]>, AsmKin
     if size == 0 {
         Ok(None)
     } else {
-        Err(AsmKind::Range)
+        Err(FaultKind::Range)
     }
 }
 
@@ -97,7 +97,7 @@ pub fn bytes_of(alloc: Global, digits: &[u8]) -> Result<Vec<u8>, AllocError>
 }
 
 /// The bytes of a value of a type.
-pub fn value(width: Width, field: &[u8]) -> Result<Value, AsmKind>
+pub fn value(width: Width, field: &[u8]) -> Result<Value, FaultKind>
     ensures value { Sees (λ v. v.items) result (sized (size_of width) field.now) }
     ensures length { IfOk result (λ v. length v.items ≡ size_of width) }
 {
@@ -115,7 +115,7 @@ pub fn value(width: Width, field: &[u8]) -> Result<Value, AsmKind>
 
 /// A value of a type.
 #[tactic(auto, unfolding(crate::specs::Digits::datum))]
-pub fn datum(width: Width, field: &[u8]) -> Result<Datum, AsmKind>
+pub fn datum(width: Width, field: &[u8]) -> Result<Datum, FaultKind>
     ensures { result ≡ datum width field.now }
 {
     let value = value(width, field)?;

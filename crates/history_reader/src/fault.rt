@@ -4,7 +4,7 @@ ghost use Rattle.std.specs.Prelude.{◌≡◌};
 ghost use Rattle.history_reader.specs.Faults.{kind_text, line_kind};
 ghost use Rattle.history_reader.specs.declared.fault.ReadKind.TheVariants.{Memory};
 
-use script_fields::AsmKind;
+use script_fields::FaultKind;
 use std::alloc::{AllocError, AllocFailed};
 use std::error::Error;
 use std::fmt;
@@ -67,12 +67,12 @@ impl<T: Drop> From<AllocFailed<T>> for ReadKind {
     }
 }
 
-impl From<AsmKind> for ReadKind {
+impl From<FaultKind> for ReadKind {
     ghost from_gives = { λ operand kind. kind ≡ line_kind operand };
 
-    fn from(operand: AsmKind) -> ReadKind {
+    fn from(operand: FaultKind) -> ReadKind {
         match operand {
-            AsmKind::Range => ReadKind::Size,
+            FaultKind::Range => ReadKind::Size,
             _ => ReadKind::Line,
         }
     }

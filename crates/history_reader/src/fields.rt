@@ -6,7 +6,7 @@ ghost use Rattle.script_fields.specs.Text.{is_feed};
 ghost use Rattle.script_fields.specs.Operands.{Sees};
 ghost use Rattle.history_reader.specs.Fields.{is_space, fields, rest_fields, next, next_three, none, one, equals};
 
-use script_fields::AsmKind;
+use script_fields::FaultKind;
 
 fn feed_at(text: &[u8]) -> Option<usize>
     ensures { result ≡ position is_feed text.now }
@@ -49,18 +49,18 @@ pub fn first_field(line: &[u8]) -> (&[u8], Option<&[u8]>)
 
 /// The next field, and what stands after it.
 #[tactic(auto, unfolding(crate::specs::Fields::next))]
-pub fn next_field(rest: Option<&[u8]>) -> Result<(&[u8], Option<&[u8]>), AsmKind>
+pub fn next_field(rest: Option<&[u8]>) -> Result<(&[u8], Option<&[u8]>), FaultKind>
     ensures { Sees (λ x. (x.0.now, rest_fields x.1)) result (next (rest_fields rest.entry)) }
 {
     match rest {
-        None => Err(AsmKind::Operand),
+        None => Err(FaultKind::Operand),
         Some(rest) => Ok(first_field(rest)),
     }
 }
 
 /// The next three fields, and what stands after them.
 #[tactic(auto, unfolding(crate::specs::Fields::next_three))]
-pub fn three_fields(rest: Option<&[u8]>) -> Result<(&[u8], &[u8], &[u8], Option<&[u8]>), AsmKind>
+pub fn three_fields(rest: Option<&[u8]>) -> Result<(&[u8], &[u8], &[u8], Option<&[u8]>), FaultKind>
     ensures { Sees (λ x. (x.0.now, x.1.now, x.2.now, rest_fields x.3)) result (next_three (rest_fields rest.entry)) }
 {
     let (first, rest) = next_field(rest)?;
@@ -71,21 +71,21 @@ pub fn three_fields(rest: Option<&[u8]>) -> Result<(&[u8], &[u8], &[u8], Option<
 
 /// No field.
 #[tactic(auto, unfolding(crate::specs::Fields::none))]
-pub fn no_field(rest: Option<&[u8]>) -> Result<(), AsmKind>
+pub fn no_field(rest: Option<&[u8]>) -> Result<(), FaultKind>
     ensures { result ≡ none (rest_fields rest.entry) }
 {
     match rest {
         None => Ok(()),
         Some(rest) => {
             let _ = first_field(rest);
-            Err(AsmKind::Operand)
+            Err(FaultKind::Operand)
         }
     }
 }
 
 /// One field.
 #[tactic(auto, unfolding(crate::specs::Fields::one))]
-pub fn one_field(rest: Option<&[u8]>) -> Result<&[u8], AsmKind>
+pub fn one_field(rest: Option<&[u8]>) -> Result<&[u8], FaultKind>
     ensures { Sees (λ x. x.now) result (one (rest_fields rest.entry)) }
 {
     let (first, rest) = next_field(rest)?;
@@ -95,13 +95,13 @@ pub fn one_field(rest: Option<&[u8]>) -> Result<&[u8], AsmKind>
 
 /// What stands after the sign between a call and its reply.
 #[tactic(auto, unfolding(crate::specs::Fields::equals))]
-pub fn equals(rest: Option<&[u8]>) -> Result<Option<&[u8]>, AsmKind>
+pub fn equals(rest: Option<&[u8]>) -> Result<Option<&[u8]>, FaultKind>
     ensures { Sees rest_fields result (equals (rest_fields rest.entry)) }
 {
     let (sign, rest) = next_field(rest)?;
     if sign == b"=".as_slice() {
         Ok(rest)
     } else {
-        Err(AsmKind::Operand)
+        Err(FaultKind::Operand)
     }
 }

@@ -8,6 +8,7 @@ mod equality;
 mod fault;
 mod fields;
 mod item_list;
+mod keywords;
 mod line_parts;
 mod lines;
 mod numbers;
@@ -16,7 +17,6 @@ mod reply;
 mod state;
 mod verb;
 mod whole;
-mod words;
 
 pub use fault::{ReadFault, ReadKind};
 pub use whole::{first_version, legal_texts, read, second_version};

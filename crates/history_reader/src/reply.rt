@@ -8,7 +8,7 @@ use crate::digits::value;
 use crate::fields::{equals, next_field, no_field, one_field};
 use crate::numbers::{byte, ranged};
 use itm_types::{Refusal, Reply, Width};
-use script_fields::{AsmKind, both, exactly};
+use script_fields::{FaultKind, both, exactly};
 
 /// Of which kind the reply of a call is, where it is not refused.
 #[derive(Clone, Copy)]
@@ -35,7 +35,7 @@ fn refusal_of(number: u64) -> Refusal
 }
 
 #[tactic(auto, unfolding(crate::specs::Replies::refused))]
-fn refused(rest: Option<&[u8]>) -> Result<Reply, AsmKind>
+fn refused(rest: Option<&[u8]>) -> Result<Reply, FaultKind>
     ensures { result ≡ refused (rest_fields rest.entry) }
 {
     let number = ranged(1, 8, one_field(rest)?)?;
@@ -43,7 +43,7 @@ fn refused(rest: Option<&[u8]>) -> Result<Reply, AsmKind>
 }
 
 #[tactic(auto, unfolding(crate::specs::Replies::accepted))]
-fn accepted(kind: ReplyKind, first: &[u8], rest: Option<&[u8]>) -> Result<Reply, AsmKind>
+fn accepted(kind: ReplyKind, first: &[u8], rest: Option<&[u8]>) -> Result<Reply, FaultKind>
     ensures { result ≡ accepted kind first.now (rest_fields rest.entry) }
 {
     match kind {
@@ -67,7 +67,7 @@ fn accepted(kind: ReplyKind, first: &[u8], rest: Option<&[u8]>) -> Result<Reply,
 
 /// The reply of a call.
 #[tactic(auto, unfolding(crate::specs::Replies::reply_of))]
-fn reply_of(kind: ReplyKind, rest: Option<&[u8]>) -> Result<Reply, AsmKind>
+fn reply_of(kind: ReplyKind, rest: Option<&[u8]>) -> Result<Reply, FaultKind>
     ensures { result ≡ reply_of kind (rest_fields rest.entry) }
 {
     let (first, rest) = next_field(rest)?;
@@ -80,10 +80,10 @@ fn reply_of(kind: ReplyKind, rest: Option<&[u8]>) -> Result<Reply, AsmKind>
 
 /// Operands, and the reply that stands behind them.
 pub fn with_reply<A: Drop>(
-    operands: Result<A, AsmKind>,
+    operands: Result<A, FaultKind>,
     kind: ReplyKind,
     rest: Option<&[u8]>,
-) -> Result<(A, Reply), AsmKind>
+) -> Result<(A, Reply), FaultKind>
     ensures { result ≡ with_reply operands kind (rest_fields rest.entry) }
 {
     let rest = equals(rest)?;

@@ -1,12 +1,8 @@
 -- A pass that is cut from another and joined to it again.
 use Rattle.std.proofs.Common.{◌≡◌, ℕ, ◌+◌, ◌-◌, ◌<◌, ◌⊎◌, ◌∙◌, subst, inl, inr, arith, append-nil, max}
 use Rattle.itm_c.proofs.Common.{Client, view_of}
-use Rattle.shared_words.specs.Commits.{StartsWith}
-use Rattle.shared_words.specs.Steps.{Joined}
-use Rattle.shared_words.specs.Views.{cut_left, cut_right}
-use Rattle.shared_words.specs.declared.view.View.{View}
-use Rattle.itm_c.specs.Seats.{Enters, IsUnused, Leaves}
-use Rattle.itm_c.specs.declared.root.Root.{Root}
+use Rattle.shared_words.{specs.Commits.StartsWith, specs.Steps.Joined, specs.Views.cut_left, specs.Views.cut_right, specs.declared.view.View.View}
+use Rattle.itm_c.{specs.Seats.Enters, specs.Seats.IsUnused, specs.Seats.Leaves, specs.declared.root.Root.Root}
 
 either : {A : Type 0} → (s t : A) (P Q : Type 0) → (P × (t ≡ s)) ⊎ (Q × (t ≡ s)) → t ≡ s
 either s t P Q (inl p) = p.1

@@ -7,8 +7,7 @@ use Rattle.itm_types.specs.declared.copy.SharedSide.TheVariants as shared
 use Rattle.itm_types.specs.declared.copy.CopyPair.TheVariants as pair
 use Rattle.itm_entries.specs.declared.entry.Control.TheVariants as control
 use Rattle.itm_entries.specs.declared.entry.Entry.TheVariants as entry
-use Rattle.itm_entries.specs.Names.{name_of}
-use Rattle.itm_entries.specs.Entries.{entry_of}
+use Rattle.itm_entries.{specs.Names.name_of, specs.Entries.entry_of}
 
 -- a rule's name, and the entry that it names
 

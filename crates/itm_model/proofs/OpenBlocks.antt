@@ -1,9 +1,9 @@
 -- Laws of the open blocks, as calls change what they stand on.
 use Rattle.std.proofs.Common.{◌≡◌, ℕ, suc, Bool, true, false, true≢false, ◌||◌, ◌+◌, ◌-◌, ◌≤◌, ◌<◌, List, [], ◌∷◌, ◌++◌, length, take, drop, reverse, subst, refl, ap, sym, ◌∙◌, arith, length-append, Option, None, option_map, map}
-use Rattle.itm_model.proofs.Common.{Actions, AreUnder, AreWithin, Block, Logged, Mark, Old, Props, Restores, Saved, State, also_kept, back, back_from, block_of, blocks_from, blocks_of, closed, committed, cut_back, drop-append-le, handed, irrevocable_from, kept_of, length-reverse, length-take-le, list_any, logged_in, merged, put_back, restored, reverse-append, saved_in, saved_of, take-append-drop, undone, undone_from}
+use Rattle.itm_model.proofs.Common.{Actions, AreUnder, AreWithin, Block, Logged, Mark, Old, Props, Restores, Saved, State, also_kept, back, back_from, block_of, blocks_from, blocks_of, bytes_in, closed, committed, cut_back, drop-append-le, handed, irrevocable_from, kept_of, length-reverse, length-take-le, list_any, logged_in, merged, put_back, restored, reverse-append, saved_in, saved_of, take-append-drop, take-take, undone, undone_from}
 use Rattle.std.proofs.lemmas.List.Sorted.{list_any-IsPermutation, IsPermutation-reverse}
-use Rattle.itm_model.proofs.Journals.Rollbacks.{take-take, length-put_back}
-use Rattle.itm_model.proofs.Journals.KeptLogs.{kept_of-append, kept_of-same, restored_kept}
+use Rattle.itm_model.{proofs.Journals.Rollbacks.length-put_back, proofs.Journals.KeptLogs.kept_of-append}
+use Rattle.itm_types.{proofs.Elements.all_map, proofs.OldBytes.kept_of-same, proofs.OldBytes.restored_kept}
 
 -- ## Marks
 
@@ -35,7 +35,7 @@ blocks_same irr j m j' m' a os top high (x ∷ ms) u r =
 pub blocks_long : (irr : Bool) (j : List Old) (m a a' : List ℕ) (os : List Old) (ms : List Mark) → length a' ≡ length a → blocks_from irr j m a' os ms ≡ blocks_from irr j m a os ms
 blocks_long irr j m a a' os [] e = refl
 blocks_long irr j m a a' os (x ∷ ms) e =
-    let head : block_of irr j m a' os x ≡ block_of irr j m a os x = ap (block_with irr x (put_back (drop x.at j) m)) (kept_of-same a' a (drop x.logs os) e) in
+    let head : block_of irr j m a' os x ≡ block_of irr j m a os x = ap (block_with irr x (put_back (drop x.at j) m)) (kept_of-same a' a (map bytes_in (drop x.logs os)) e) in
     let tail = blocks_long irr j m a a' (take x.logs os) ms e in
     (λ i. head i ∷ tail i)
 
@@ -43,28 +43,22 @@ blocks_long irr j m a a' os (x ∷ ms) e =
 abbrev pub state_of : Bool → List Old → List ℕ → List ℕ → List Old → List Mark → Actions → Bool → State
 state_of irr j m a os marks acts wrote = record { memory = m; arena = a; blocks = blocks_of irr j m a os marks; actions = acts; wrote = wrote; irrevocable = irr }
 
-back_false : (j : List Old) (m : List ℕ) (j' : List Old) (m' : List ℕ) (a a' : List ℕ) (os os' : List Old) (marks : List Mark) (x : Mark) (acts acts' : Actions) (wrote : Bool)
-    → m' ≡ put_back (drop x.at j) m → Restores x.at j m j' m' → AreUnder x.at x.logs (reverse marks)
-    → a' ≡ put_back (drop x.logs os) a → os' ≡ take x.logs os → AreWithin (length a) (drop x.logs os) → acts' ≡ cut_back x.actions.commits x.actions.undos acts
-    → state_of false j' m' a' os' marks acts' x.wrote ≡ back (state_of false j m a os (marks ++ x ∷ []) acts wrote)
-back_false j m j' m' a a' os os' marks x acts acts' wrote e r u f g w n =
-    let blocks : blocks_of false j m a os (marks ++ x ∷ []) ≡ block_of false j m a os x ∷ blocks_from false j m a (take x.logs os) (reverse marks) = ap (λ t. blocks_from false j m a os t) (reverse-append marks (x ∷ [])) in
-    let long : length a' ≡ length a = ap (length {A = ℕ}) f ∙ length-put_back (drop x.logs os) a w in
-    let same : blocks_of false j' m' a' os' marks ≡ blocks_from false j m a (take x.logs os) (reverse marks) =
-    ap (λ t. blocks_from false j' m' a' t (reverse marks)) g ∙ (blocks_long false j' m' a a' (take x.logs os) (reverse marks) long ∙ blocks_same false j m j' m' a (take x.logs os) x.at x.logs (reverse marks) u r) in
-    let arena = f ∙ restored_kept (drop x.logs os) a w in
-    let there : state_of false j' m' a' os' marks acts' x.wrote ≡ record { memory = put_back (drop x.at j) m; arena = restored (kept_of a (drop x.logs os)) a; blocks = blocks_from false j m a (take x.logs os) (reverse marks); actions = cut_back x.actions.commits x.actions.undos acts; wrote = x.wrote; irrevocable = false } =
-    (λ i. record { memory = e i; arena = arena i; blocks = same i; actions = n i; wrote = x.wrote; irrevocable = false }) in
-    let s : List Block → State = λ bs. record { memory = m; arena = a; blocks = bs; actions = acts; wrote = wrote; irrevocable = false } in
-    there ∙ sym (ap (λ bs. back (s bs)) blocks)
-
 -- the innermost block rolled back
 pub back_is : (irr : Bool) (j : List Old) (m : List ℕ) (j' : List Old) (m' : List ℕ) (a a' : List ℕ) (os os' : List Old) (marks : List Mark) (x : Mark) (acts acts' : Actions) (wrote : Bool) → irr ≡ false
     → m' ≡ put_back (drop x.at j) m → Restores x.at j m j' m' → AreUnder x.at x.logs (reverse marks)
     → a' ≡ put_back (drop x.logs os) a → os' ≡ take x.logs os → AreWithin (length a) (drop x.logs os) → acts' ≡ cut_back x.actions.commits x.actions.undos acts
     → state_of irr j' m' a' os' marks acts' x.wrote ≡ back (state_of irr j m a os (marks ++ x ∷ []) acts wrote)
 back_is true j m j' m' a a' os os' marks x acts acts' wrote h e r u f g w n = absurd (true≢false h)
-back_is false j m j' m' a a' os os' marks x acts acts' wrote h e r u f g w n = back_false j m j' m' a a' os os' marks x acts acts' wrote e r u f g w n
+back_is false j m j' m' a a' os os' marks x acts acts' wrote h e r u f g w n =
+    let blocks : blocks_of false j m a os (marks ++ x ∷ []) ≡ block_of false j m a os x ∷ blocks_from false j m a (take x.logs os) (reverse marks) = ap (λ t. blocks_from false j m a os t) (reverse-append marks (x ∷ [])) in
+    let long : length a' ≡ length a = ap (length {A = ℕ}) f ∙ length-put_back (drop x.logs os) a w in
+    let same : blocks_of false j' m' a' os' marks ≡ blocks_from false j m a (take x.logs os) (reverse marks) =
+    ap (λ t. blocks_from false j' m' a' t (reverse marks)) g ∙ (blocks_long false j' m' a a' (take x.logs os) (reverse marks) long ∙ blocks_same false j m j' m' a (take x.logs os) x.at x.logs (reverse marks) u r) in
+    let arena = f ∙ restored_kept (map bytes_in (drop x.logs os)) a (all_map _ bytes_in (drop x.logs os) w) in
+    let there : state_of false j' m' a' os' marks acts' x.wrote ≡ record { memory = put_back (drop x.at j) m; arena = restored (kept_of a (drop x.logs os)) a; blocks = blocks_from false j m a (take x.logs os) (reverse marks); actions = cut_back x.actions.commits x.actions.undos acts; wrote = x.wrote; irrevocable = false } =
+    (λ i. record { memory = e i; arena = arena i; blocks = same i; actions = n i; wrote = x.wrote; irrevocable = false }) in
+    let s : List Block → State = λ bs. record { memory = m; arena = a; blocks = bs; actions = acts; wrote = wrote; irrevocable = false } in
+    there ∙ sym (ap (λ bs. back (s bs)) blocks)
 
 -- ## An irrevocable transaction
 
@@ -111,20 +105,13 @@ abbrev pub mode_closed : List Mark → Bool → Bool
 mode_closed [] irr = false
 mode_closed (x ∷ xs) irr = irr
 
-stay : (ms : List Mark) (acts : Actions) → 0 < length ms → acts ≡ actions_closed ms acts
-stay [] acts h = absurd (omega (arith, h))
-stay (x ∷ xs) acts h = refl
+stay : (ms : List Mark) (acts : Actions) (irr : Bool) → 0 < length ms → (acts ≡ actions_closed ms acts) × (irr ≡ mode_closed ms irr)
+stay [] acts irr h = absurd (omega (arith, h))
+stay (x ∷ xs) acts irr h = (refl, refl)
 
--- with a block around it none runs
-pub actions_stay : (ms : List Mark) (acts : Actions) → 0 < length ms → acts ≡ actions_closed (reverse ms) acts
-actions_stay ms acts h = stay (reverse ms) acts (omega (arith, h, length-reverse ms))
-
-mode_stay_from : (ms : List Mark) (irr : Bool) → 0 < length ms → irr ≡ mode_closed ms irr
-mode_stay_from [] irr h = absurd (omega (arith, h))
-mode_stay_from (x ∷ xs) irr h = refl
-
-pub mode_stay : (ms : List Mark) (irr : Bool) → 0 < length ms → irr ≡ mode_closed (reverse ms) irr
-mode_stay ms irr h = mode_stay_from (reverse ms) irr (omega (arith, h, length-reverse ms))
+-- with a block around it both stay
+pub both_stay : (ms : List Mark) (acts : Actions) (irr : Bool) → 0 < length ms → (acts ≡ actions_closed (reverse ms) acts) × (irr ≡ mode_closed (reverse ms) irr)
+both_stay ms acts irr h = stay (reverse ms) acts irr (omega (arith, h, length-reverse ms))
 
 handed_on : (irr : Bool) (outer inner : Saved) → saved_in irr (record outer { kept = merged outer.kept inner.kept }) ≡ handed (saved_in irr outer) (saved_in irr inner)
 handed_on true outer inner = refl

@@ -4,6 +4,7 @@ pub use Rattle.call_rules.proofs.Calls.Results.{answered, at_once, due, left_sta
 pub use Rattle.call_rules.proofs.Calls.Underway.{goes_on, step_done, step_seen, underway}
 pub use Rattle.call_rules.proofs.Steps.DrivenCalls.{due_on, leads_further}
 pub use Rattle.call_rules.proofs.Steps.FurtherSteps.{fewer_left, found_finishes, found_further, found_in, in_call, one_further, one_step, waits_for}
+pub use Rattle.call_rules.proofs.Steps.KnownSteps.{finds_first, last_finishes, leads_last, leads_then, then_finds, then_finishes}
 pub use Rattle.call_rules.proofs.Steps.StepChains.{at_step, cell_within, fits_of, goes, got_there, lawful_of, smaller, starts, waits_of}
 pub use Rattle.call_rules.proofs.Steps.WordReads.{clock_next, may_look, word_first}
 pub use Rattle.call_rules.specs.CallResults.{IsAnswered, IsThreadStarved, Returns, Tells}

@@ -1,14 +1,12 @@
 -- How a read and a write of a number are answered where the transaction goes on.
 use Rattle.std.proofs.Common.{◌≡◌, ℕ, ◌+◌, ◌≤◌, Bool, true, false, length, drop, List, Option, None, Some, refl, sym, ap, subst, arith, length-drop}
 use Rattle.itm_runtime.proofs.Common.{Answer, Call, Core, Datum, Done, GoesOn, HasNumber, IsAnswered, OutOfRange, Read, Refusal, Replied, Reply, Served, Standing, Tells, U8, View, Write, bytes_reply, came_over, or_else, ranges, refusal, reply_unless, standing, start_of, unless}
-use Rattle.std.proofs.lemmas.Bool.{leb-true}
-use Rattle.std.proofs.lemmas.List.{length-take-le}
+use Rattle.std.{proofs.lemmas.Bool.leb-true, proofs.lemmas.List.length-take-le}
 use Rattle.itm_types.specs.Access.{size_of}
 use Rattle.itm_types.specs.declared.access.ReadHint.{ReadHint}
 use Rattle.itm_types.specs.declared.access.WriteHint.{WriteHint}
 use Rattle.itm_types.specs.Slices.{slice}
-use Rattle.itm_model.specs.Places.{in_range}
-use Rattle.itm_model.specs.State.{State}
+use Rattle.itm_model.{specs.Places.in_range, specs.State.State}
 use Rattle.norec_core.specs.Stands.{stands_for}
 use Rattle.shared_words.specs.declared.words.Words.{Words}
 use Rattle.itm_runtime.specs.declared.stop.Stop.TheVariants as stops

@@ -1,7 +1,6 @@
 -- Values of one type with the same bytes.
 use Rattle.std.proofs.Common.{◌≡◌, length}
-use Rattle.itm_types.specs.Access.{size_of}
-use Rattle.itm_types.specs.declared.datum.Datum.{Datum}
+use Rattle.itm_types.{specs.Access.size_of, specs.declared.datum.Datum.Datum}
 use mathlib.Core.HLevel.{is_prop→PathP}
 use native.Mathlib.Nat.{ℕ_set}
 

@@ -4,9 +4,8 @@ use Rattle.script_fields.specs.declared.fault.AsmFault.{AsmFault}
 use Rattle.text_commands.specs.Answers.{Says}
 use Rattle.text_commands.specs.Lines.{failure_line, failure_status, script_line}
 use Rattle.text_commands.specs.declared.failure.Failure.TheVariants.{Reading}
-use Rattle.itmrun.specs.declared.command.Task.{Task}
+use Rattle.itmrun.{specs.declared.command.Task.Task, specs.Doing.Does}
 use Rattle.itmrun.specs.declared.command.Task.TheVariants as tasks
-use Rattle.itmrun.specs.Doing.{Does}
 
 pub failed_open : (task : Task) (status : ℕ) (old new : Option (List ℕ)) → Says (failure_line script_line Reading) (failure_status {F = AsmFault} Reading) status old new → Does task status old new
 failed_open tasks.Asm status old new t = ([], (None, None, (Err Reading, tt, t)))

@@ -1,9 +1,7 @@
 -- What was written of a picture.
 use Rattle.std.proofs.Common.{◌≡◌, ℕ, List, [], take, Option, Result, Ok, Err, sym, subst, true, ◌∙◌, IfErr}
 use Rattle.itmsteps.proofs.Common.{Appends, AsmFault, Failure, Item, ScheduleRows, Tells, Thread, View, World, Writes, Writing, schedule_whole, thread_rules}
-use Rattle.step_picture.specs.declared.mark.Mark.{Mark}
-use Rattle.step_picture.specs.Gathered.{Gathered}
-use Rattle.step_picture.specs.Picture.{picture_text}
+use Rattle.step_picture.{specs.declared.mark.Mark.Mark, specs.Gathered.Gathered, specs.Picture.picture_text}
 
 module _ (view : View) (items : List Item) (a b : World Thread) (o n : Option (List ℕ)) (columns : List ℕ) (shown marks : List Mark) where
   -- the picture of all those events

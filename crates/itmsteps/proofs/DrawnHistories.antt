@@ -2,9 +2,7 @@
 use Rattle.std.proofs.Common.{◌≡◌, ℕ, List, Option, Result, Ok, Err, refl, sym, subst, IfErr}
 use Rattle.itmsteps.proofs.Common.{Failure, InOrder, IsDrawn, IsNote, Outputs, Seat, Writes, Writing, drawing}
 use Rattle.history_checker.specs.Answers.{finding_of}
-use Rattle.history_picture.specs.declared.note.Note.{Note}
-use Rattle.history_picture.specs.Columns.{columns_of}
-use Rattle.history_picture.specs.Picture.{picture_text}
+use Rattle.history_picture.{specs.declared.note.Note.Note, specs.Columns.columns_of, specs.Picture.picture_text}
 use Rattle.history_reader.specs.declared.fault.ReadFault.{ReadFault}
 use Rattle.tx_attempts.specs.declared.attempt.Attempt.{Attempt}
 use Rattle.tx_history.specs.declared.history.History.{History}

@@ -1,8 +1,7 @@
 -- The numbers of a program's threads.
 use Rattle.std.proofs.Common.{◌≡◌, ℕ, ◌+◌, List, [], ◌∷◌, ◌++◌, sym, ap, ◌∙◌, arith}
 use Rattle.itmsteps.proofs.Common.{range_with_len}
-use Rattle.std.proofs.lemmas.List.{map-id}
-use Rattle.std.proofs.lemmas.List.FromFn.{map-range_with_len_more}
+use Rattle.std.{proofs.lemmas.List.map-id, proofs.lemmas.List.FromFn.map-range_with_len_more}
 
 -- one more
 pub thread_more : (n : ℕ) (threads : List ℕ) → threads ≡ range_with_len 0 n → threads ++ n ∷ [] ≡ range_with_len 0 (n + 1)

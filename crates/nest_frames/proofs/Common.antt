@@ -9,7 +9,7 @@ pub use Rattle.write_set.specs.Marks.{AreMarks, IsBy, IsMark, IsNew, KeepsMarks,
 pub use Rattle.write_set.specs.Rows.{lookup, put, replaced, row}
 pub use Rattle.write_set.specs.declared.mark.Place.{Place}
 pub use Rattle.write_set.specs.declared.row.Row.{Row}
-pub use Rattle.std.proofs.lemmas.Bool.{cases_Bool, cond-false, cond-true, eqb-true, false≢true}
+pub use Rattle.std.proofs.lemmas.Bool.{cases_Bool, false≢true}
 pub use Rattle.std.proofs.lemmas.Iterator.{YieldsList-from_slice}
 pub use Rattle.std.proofs.lemmas.Iterator.Search.{any_from_yields_List}
 pub use Rattle.std.proofs.lemmas.List.{append-nil, drop-append-le, drop_all, get_or-reverse, length-map, length-reverse, length-take, length-take-le, map-append, reverse-append, take-append-drop, take-append-le, take-take, take_all}

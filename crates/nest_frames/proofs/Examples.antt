@@ -1,8 +1,7 @@
 -- Worked cases of open blocks, computed.
 use Rattle.std.proofs.Common.{◌≡◌, true, false, List, ℕ, [], ◌∷◌, refl}
 use Rattle.nest_frames.proofs.Common.{Actions, Frame, Moment, Old, Props, Row, Written, actions_back, actions_cancelled, actions_closed, arena_back, arena_restored, as_commit, as_undo, begun, closed, frames_of, is_kept, log_of, logged, made_irrevocable, no_actions, put_back, reads_of, registered, renewed, renewed_at, row, start}
-use Rattle.itm_types.specs.declared.call.Action.{Action}
-use Rattle.itm_types.specs.declared.call.ActionKind.TheVariants.{Undo}
+use Rattle.itm_types.{specs.declared.call.Action.Action, specs.declared.call.ActionKind.TheVariants.Undo}
 
 abbrev old : ℕ → ℕ → Old
 old place byte = record { place = place; bytes = byte ∷ [] }

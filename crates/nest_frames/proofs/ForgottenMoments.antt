@@ -47,10 +47,8 @@ module _ (w w' : Written) (os : List Old) (u : Undo) (l l' : ActionList) (ms ms'
     (written : w' ≡ unwritten) (logged : u ≡ record { size = size; olds = [] }) (registered : l' ≡ record l { actions = record l.actions { undos = [] } }) (moments : ms' ≡ map forgotten ms) (deep : depth' ≡ depth) where
   pub sound_so : IsSound w os l.actions ms → IsSound w' u.olds l'.actions ms'
   sound_so s =
-      let acts : IsSound unwritten [] l'.actions (map forgotten ms) = subst (λ (k : ActionList). IsSound unwritten [] k.actions (map forgotten ms)) (sym registered) (sound_forgotten w os l.actions ms s) in
-      let us : IsSound unwritten u.olds l'.actions (map forgotten ms) = subst (λ (v : Undo). IsSound unwritten v.olds l'.actions (map forgotten ms)) (sym logged) acts in
-      let ws : IsSound w' u.olds l'.actions (map forgotten ms) = subst (λ (v : Written). IsSound v u.olds l'.actions (map forgotten ms)) (sym written) us in
-      subst (λ t. IsSound w' u.olds l'.actions t) (sym moments) ws
+      subst (λ (t : Written × Undo × ActionList × List Moment). IsSound t.0 t.1.olds t.2.actions t.3)
+      (λ i. (sym written i, sym logged i, sym registered i, sym moments i)) (sound_forgotten w os l.actions ms s)
 
   abbrev nest_of : List Frame → Nest
   nest_of blocks = record { writes = unwritten; size = size; depth = depth; blocks = blocks; actions = record l.actions { undos = [] }; room = l.room }

@@ -1,27 +1,13 @@
 -- Words of which the innermost block's begin had no row.
-use Rattle.std.proofs.Common.{◌≡◌, ◌<◌, ◌≤◌, ℕ, ◌==◌, List, [], ◌∷◌, length, take, drop, reverse, None, refl, sym, ap, subst, ◌∙◌, inl, inr, arith}
-use Rattle.nest_frames.proofs.Common.{Actions, AreMarks, AreUnder, IsNew, IsSound, Moment, Old, Place, Row, Written, cases_Bool, cond-false, cond-true, eqb-true, frames_from, frames_of, length-reverse, length-take-le, lookup, replaced, rows_of}
-use Rattle.write_set.specs.Marks.{put_back}
-use Rattle.write_set.proofs.Overlays.{lookup_here, lookup_there}
-use Rattle.write_set.proofs.PutBack.{length-put_back, take-put_back}
+use Rattle.std.proofs.Common.{◌≡◌, ◌<◌, ◌≤◌, ℕ, List, [], ◌∷◌, length, take, drop, reverse, None, refl, sym, ap, subst, ◌∙◌, arith}
+use Rattle.std.proofs.lemmas.Bool.Decides.{nat_tests}
+use Rattle.nest_frames.proofs.Common.{Actions, AreMarks, AreUnder, IsNew, IsSound, Moment, Old, Place, Row, Written, frames_from, frames_of, length-reverse, length-take-le, lookup, replaced, rows_of, Frame, Nest}
+use Rattle.write_set.{specs.Marks.put_back, proofs.PutBack.length-put_back, proofs.PutBack.take-put_back}
 
 -- a row in the place of its word's leaves no word without one
 lookup-replaced_none : (rows : List Row) (s : Row) (word : ℕ) → lookup word (replaced rows s) ≡ None → lookup word rows ≡ None
 lookup-replaced_none [] s word n = refl
-lookup-replaced_none (r ∷ rs) s word n = elim (cases_Bool (r.word == s.word)) [
-  | inl e ↦ (
-      let as_put : lookup word (s ∷ rs) ≡ None = ap (lookup word) (sym (cond-true (r.word == s.word) (s ∷ rs) (r ∷ replaced rs s) e)) ∙ n in
-      elim (cases_Bool (s.word == word)) [
-        | inl h ↦ (let found = lookup_here s rs word h in absurd (cc))
-        | inr h ↦ lookup_there r rs word (ap (λ w. w == word) (eqb-true r.word s.word e) ∙ h) ∙ (sym (lookup_there s rs word h) ∙ as_put)
-      ])
-  | inr e ↦ (
-      let as_put : lookup word (r ∷ replaced rs s) ≡ None = ap (lookup word) (sym (cond-false (r.word == s.word) (s ∷ rs) (r ∷ replaced rs s) e)) ∙ n in
-      elim (cases_Bool (r.word == word)) [
-        | inl h ↦ (let found = lookup_here r (replaced rs s) word h in absurd (cc))
-        | inr h ↦ lookup_there r rs word h ∙ lookup-replaced_none rs s word (sym (lookup_there r (replaced rs s) word h) ∙ as_put)
-      ])
-]
+lookup-replaced_none (r ∷ rs) s word n = grind (arith, nat_tests, lookup-replaced_none rs s word)
 
 lookup-put_back_none : (saves rows : List Row) (word : ℕ) → lookup word (put_back saves rows) ≡ None → lookup word rows ≡ None
 lookup-put_back_none [] rows word n = n
@@ -36,9 +22,10 @@ IsNew-from w os logs (m ∷ ms) word u some none =
     subst (λ (p : Place). lookup word (take p.rows w.rows) ≡ None) u.0 before
 
 -- such a word is new
-pub IsNew-at_begin : (w : Written) (os : List Old) (a : Actions) (ms : List Moment) (word : ℕ) → IsSound w os a ms → 0 < length (frames_of w os ms)
-    → lookup word (rows_of (frames_of w os ms)) ≡ None → IsNew w word
-IsNew-at_begin w os a ms word s some none = IsNew-from w os (length os) (reverse ms) word s.under some none
+pub IsNew-at_begin : (w : Written) (os : List Old) (a : Actions) (ms : List Moment) (word : ℕ) (v : Nest) → IsSound w os a ms → frames_of w os ms ≡ v.blocks → 0 < length v.blocks
+    → lookup word (rows_of v.blocks) ≡ None → IsNew w word
+IsNew-at_begin w os a ms word v s is some none =
+    IsNew-from w os (length os) (reverse ms) word s.under (subst (λ (bs : List Frame). 0 < length bs) (sym is) some) (ap (λ (bs : List Frame). lookup word (rows_of bs)) is ∙ none)
 
 begun_from : (w : Written) (os : List Old) (logs : ℕ) (ms : List Moment) → AreUnder w.inner logs ms → AreMarks w → 0 < length ms
     → w.inner.rows ≡ length (rows_of (frames_from w os ms))

@@ -1,11 +1,12 @@
 -- The open blocks, as calls change what they stand for.
 use Rattle.std.proofs.Common.{◌≡◌, Bool, ℕ, suc, ◌+◌, ◌-◌, ◌<◌, ◌≤◌, List, [], ◌∷◌, ◌++◌, ◌||◌, length, map, take, drop, reverse, refl, ap, sym, subst, ◌∙◌, arith, length-append, Option, Some, get_or, option_map, slice_get}
+use Rattle.std.proofs.lemmas.List.{take_all, take_more}
+use Rattle.write_set.{proofs.OpenMarks.by_trans, specs.declared.mark.Mark.Mark}
 use Rattle.nest_frames.proofs.Common.{Actions, AreUnder, BeginEmpty, Frame, IsBy, IsMark, IsSound, KeepsMarks, KeepsOuter, Moment, Nest, Old, Place, Props, Written, actions_closed, closed, drop-append-le, drop_all, found, frame_at, frames_from, frames_of, get_or-reverse, kept_of, length-reverse, length-take, length-take-le, list_any, log_of, logged, option_to_list, renewed, reverse-append, rows_at, take-append-drop, take-append-le, take-take, unwritten}
 use Rattle.std.proofs.lemmas.List.Sorted.{list_any-IsPermutation, IsPermutation-reverse}
-use Rattle.std.proofs.lemmas.Option.{slice_get-map, slice_get-get_or}
+use Rattle.std.proofs.lemmas.Option.{slice_get-map, slice_get-get_or, slice_get_within, get_or_from_slice_get}
 use Rattle.itm_types.specs.KeptBytes.{also_kept, merged}
 use Rattle.undo_log.proofs.KeptBytes.{kept_of-append, kept_of-log}
-use Rattle.write_set.specs.declared.mark.Mark.{Mark}
 
 pub length-frames_from : (w : Written) (os : List Old) (ms : List Moment) → length (frames_from w os ms) ≡ length ms
 length-frames_from w os [] = refl
@@ -13,9 +14,6 @@ length-frames_from w os (m ∷ ms) = ap suc (length-frames_from w (take m.log os
 
 pub length-frames_of : (w : Written) (os : List Old) (ms : List Moment) → length (frames_of w os ms) ≡ length ms
 length-frames_of w os ms = length-frames_from w os (reverse ms) ∙ length-reverse ms
-
-IsBy-trans : {a b c : Place} → IsBy a b → IsBy b c → IsBy a c
-IsBy-trans f g = record { rows = omega (arith, f.rows, g.rows); saves = omega (arith, f.saves, g.saves) }
 
 pub IsBy-refl : (a : Place) → IsBy a a
 IsBy-refl a = record { rows = omega arith; saves = omega arith }
@@ -35,19 +33,23 @@ frames_kept : (w w' : Written) (os : List Old) (top : Place) (n : ℕ) (ms : Lis
 frames_kept w w' os top n [] u b f = refl
 frames_kept w w' os top n (m ∷ ms) u b f =
     let here : IsBy m.rows.here top = IsBy-here u.0 in
-    let is : IsMark w m.rows = record { here = IsBy-trans here b; outer = u.1 } in
-    let inner : IsBy m.rows.outer top = IsBy-trans u.1 here in
+    let is : IsMark w m.rows = record { here = by_trans here b; outer = u.1 } in
+    let inner : IsBy m.rows.outer top = by_trans u.1 here in
     let rows = f m.rows is here in
-    let rest = frames_kept w w' (take m.log os) m.rows.outer m.log ms u.3 (IsBy-trans inner b) (λ k i h. f k i (IsBy-trans h inner)) in
+    let rest = frames_kept w w' (take m.log os) m.rows.outer m.log ms u.3 (by_trans inner b) (λ k i h. f k i (by_trans h inner)) in
     (λ i. frame_at m (rows i) (drop m.log os) ∷ rest i)
 
 -- the write set has changed and kept its marks
 pub frames_written : (w w' : Written) (os : List Old) (a : Actions) (ms : List Moment) → IsSound w os a ms → KeepsMarks w w' → frames_of w' os ms ≡ frames_of w os ms
 frames_written w w' os a ms s k = frames_kept w w' os w.inner (length os) (reverse ms) s.under (IsBy-refl w.inner) (λ m i h. (k m i).1)
 
-pub IsSound-written : (w w' : Written) (os : List Old) (a : Actions) (ms : List Moment) → IsSound w os a ms → w'.inner ≡ w.inner → 0 < length ms → IsSound w' os a ms
-IsSound-written w w' os a [] s e h = absurd (omega (arith, h))
-IsSound-written w w' os a (m ∷ ms) s e h = record { under = subst (λ (p : Place). AreUnder p (length os) (reverse (m ∷ ms))) (sym e) s.under; empty = s.empty }
+-- and has its innermost mark, with as many logs or more
+pub IsSound-kept : (w w' : Written) (os os' : List Old) (a : Actions) (ms : List Moment) → IsSound w os a ms → w'.inner ≡ w.inner → length os ≤ length os' → 0 < length ms → IsSound w' os' a ms
+IsSound-kept w w' os os' a [] s e l h = absurd (omega (arith, h))
+IsSound-kept w w' os os' a (m ∷ ms) s e l h = record {
+  under = subst (λ (p : Place). AreUnder p (length os') (reverse (m ∷ ms))) (sym e) (AreUnder-more w.inner (length os) (length os') (reverse (m ∷ ms)) l s.under);
+  empty = s.empty;
+}
 
 pub nest_written : (w w' v : Written) (os : List Old) (size depth room : ℕ) (a : Actions) (ms : List Moment) → IsSound w os a ms → KeepsMarks w w' → w' ≡ v
     → ◌≡◌ {A = Nest} (record { writes = w'; size = size; depth = depth; blocks = frames_of w' os ms; actions = a; room = room }) (record { writes = v; size = size; depth = depth; blocks = frames_of w os ms; actions = a; room = room })
@@ -63,10 +65,6 @@ logged_from w os new top (m ∷ ms) u =
 
 pub frames_logged : (w : Written) (os new : List Old) (a : Actions) (ms : List Moment) → IsSound w os a ms → frames_of w (os ++ new) ms ≡ logged (frames_of w os ms) new
 frames_logged w os new a ms s = logged_from w os new w.inner (reverse ms) s.under
-
-pub IsSound-logged : (w : Written) (os os' : List Old) (a : Actions) (ms : List Moment) → IsSound w os a ms → length os ≤ length os' → 0 < length ms → IsSound w os' a ms
-IsSound-logged w os os' a [] s l h = absurd (omega (arith, h))
-IsSound-logged w os os' a (m ∷ ms) s l h = record { under = AreUnder-more w.inner (length os) (length os') (reverse (m ∷ ms)) l s.under; empty = s.empty }
 
 -- what the innermost block then keeps
 pub kept_of-logged : (arena : List ℕ) (bs : List Frame) (place size : ℕ) → 0 < length bs → place + size ≤ length arena
@@ -108,20 +106,12 @@ moment_popped w os a all ms r m s e f =
     let whole : all ≡ ms ++ m ∷ [] = e ∙ ap (λ t. ms ++ option_to_list t) f in
     subst (λ (t : List Moment). HasInnermost w os a t ms m) (sym whole) (has_innermost w os a ms m (subst (IsSound w os a) whole s))
 
--- the last of more than one is the last of those after the first one
-last_after : (x y : Moment) (all : List Moment) (m : Moment) → slice_get (x ∷ y ∷ all) (length (x ∷ y ∷ all) - 1) ≡ Some m → slice_get (y ∷ all) (length (y ∷ all) - 1) ≡ Some m
-last_after x y all m h =
-    let place : suc (length (y ∷ all) - 1) ≡ length (x ∷ y ∷ all) - 1 = omega arith in
-    ap (slice_get (x ∷ y ∷ all)) place ∙ h
-
 -- the moments around the innermost one
 around : (all : List Moment) (m : Moment) → slice_get all (length all - 1) ≡ Some m → (ms : List Moment) × (all ≡ ms ++ m ∷ [])
-around [] m h = absurd (cc)
-around (x ∷ []) m h = ([], cc)
-around (x ∷ y ∷ all) m h = within (around (y ∷ all) m (last_after x y all m h))
-  where
-    within : (ms : List Moment) × (y ∷ all ≡ ms ++ m ∷ []) → (ms : List Moment) × (x ∷ y ∷ all ≡ ms ++ m ∷ [])
-    within rest = (x ∷ rest.0, ap (λ (ms : List Moment). x ∷ ms) rest.1)
+around all m h =
+    let n = length all - 1 in
+    let within = slice_get_within all n m h in
+    (take n all, sym (take_all (n + 1) all (omega arith)) ∙ (take_more all n m within ∙ ap (λ (x : Moment). take n all ++ x ∷ []) (get_or_from_slice_get all n m m h)))
 
 pub moment_last : (w : Written) (os : List Old) (a : Actions) (all seen : List Moment) (m : Moment) → IsSound w os a all → seen ≡ all → Some m ≡ slice_get seen (length seen - 1)
     → (ms : List Moment) × HasInnermost w os a all ms m
@@ -133,7 +123,7 @@ moment_last w os a all seen m s e f =
 -- the blocks around the innermost one, where the write set has kept the marks around its own
 frames_outer : (w w' : Written) (os us : List Old) (a : Actions) (all ms : List Moment) (m : Moment) → HasInnermost w os a all ms m → KeepsOuter m.rows w w' → frames_of w' us ms ≡ frames_of w us ms
 frames_outer w w' os us a all ms m h k =
-    let inner : IsBy m.rows.outer w.inner = IsBy-trans h.is_mark.outer h.is_mark.here in
+    let inner : IsBy m.rows.outer w.inner = by_trans h.is_mark.outer h.is_mark.here in
     frames_kept w w' us m.rows.outer m.log (reverse ms) h.rest inner (λ n i b. (k n i b).1)
 
 -- the innermost block is gone
@@ -197,9 +187,8 @@ IsSound-closed w w' os a all ms m h e l = record {
 
 -- what the block around the innermost one then keeps
 pub kept_of-closed : (arena : List ℕ) (bs : List Frame) → 1 < length bs → kept_of arena (log_of (closed bs)) ≡ merged (kept_of arena (log_of (drop 1 bs))) (kept_of arena (log_of bs))
-kept_of-closed arena [] h = absurd (omega (arith, h))
-kept_of-closed arena (b ∷ []) h = absurd (omega (arith, h))
 kept_of-closed arena (b ∷ p ∷ bs) h = kept_of-append arena p.log b.log
+kept_of-closed arena bs h = absurd (omega (arith, h))
 
 -- no block is open
 pub no_frames : (w : Written) (os : List Old) (a : Actions) (ms : List Moment) → IsSound w os a ms → frames_of w os ms ≡ []
@@ -211,9 +200,8 @@ no_frames w os a (m ∷ ms) s e =
 
 -- the block that has closed was not the outermost one
 pub actions_inner : (bs : List Frame) (a : Actions) → 1 < length bs → actions_closed bs a ≡ a
-actions_inner [] a h = absurd (omega (arith, h))
-actions_inner (b ∷ []) a h = absurd (omega (arith, h))
 actions_inner (b ∷ p ∷ bs) a h = refl
+actions_inner bs a h = absurd (omega (arith, h))
 
 -- ## Properties
 

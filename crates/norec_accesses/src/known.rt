@@ -10,8 +10,8 @@ use itm_types::{Call, ReadHint, Width};
 use norec_data::{CallEnd, Data, Turn, access_refusal};
 use word_pieces::Piece;
 
-/// A read comes. Where it is one of a whole word that the write set has whole, or that is logged, it is answered with the
-/// bytes of this number; else nothing is done.
+/// A read comes. Where it is one of a whole word that the write set has whole, or that is logged, it may be answered, with the
+/// bytes of this number; where it is not, nothing is done.
 #[inline(always)]
 pub fn known_number(state: &mut Data, hint: ReadHint, width: Width, at: u64) -> Option<u64>
     requires sound { IsSound state.old phases.Idle }

@@ -5,14 +5,14 @@
 mod copies;
 mod fills;
 mod known;
+mod new_words;
 mod range;
 mod reads;
-mod words;
 mod writes;
 
 pub use copies::copy;
 pub use fills::fill;
 pub use known::known_number;
+pub use new_words::{ask_word, begin_word, read_at_once, word_to_read};
 pub use reads::{confirmed, confirmed_new, loaded, read};
-pub use words::{ask_word, begin_word, read_at_once, word_to_read};
 pub use writes::{write, write_found, write_next, write_served};

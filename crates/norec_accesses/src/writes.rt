@@ -51,8 +51,8 @@ pub fn write_served(
     Ok(())
 }
 
-/// The same, where that takes no memory and no look at the write set's index: the value lies in one word, which the last transaction
-/// wrote next, or few words are written. Else nothing is done.
+/// The same may be done here, where that takes no memory and no look at the write set's index: the value lies in one word, which the
+/// last transaction wrote next, or few words are written. Where it is not, nothing is done.
 #[inline(always)]
 pub fn write_next(state: &mut Data, hint: WriteHint, at: u64, value: &Datum) -> bool
     requires sound { IsSound state.old phases.Idle }
@@ -88,8 +88,8 @@ fn put_next(frames: &mut Frames, at: u64, size: u8, bytes: &[u8]) -> bool
     }
 }
 
-/// The same, where that takes no memory: the value lies in one word, which the index has, and more words than few are written. Else
-/// nothing is done.
+/// The same may be done here, where that takes no memory: the value lies in one word, which the index has, and more words than few
+/// are written. Where it is not, nothing is done.
 #[inline(always)]
 pub fn write_found(state: &mut Data, hint: WriteHint, at: u64, value: &Datum) -> bool
     requires sound { IsSound state.old phases.Idle }

@@ -1,18 +1,15 @@
 -- The steps of a call are within its most.
 use Rattle.std.proofs.Common.{◌≡◌, ◌≢◌, ℕ, ◌+◌, ◌-◌, ◌*◌, ◌^◌, ◌<◌, ◌≤◌, Bool, true, false, if◌then◌else◌, List, length, refl, ap, arith, Some, None, sym}
 use Rattle.norec_blocks.proofs.Common.{Aim, Begin, Core, Data, FitsPurpose, InRound, IsHolding, IsOn, IsSound, IsWithin, LogRow, MayRead, Opening, Phase, Taking, Written, among, call_for, call_of, cond-false, cond-true, core, count, doing_of, first_of, in_block, in_transaction, most, passed, round_of, total, total_for, total_left, waits_of}
-use Rattle.itm_types.specs.declared.limits.TheConstants.{MAX_WORDS}
+use Rattle.itm_types.{specs.declared.limits.TheConstants.MAX_WORDS, specs.declared.limits.TheConstants.MAX_PATIENCE}
 use Rattle.norec_core.specs.declared.call_parts.Purpose.{Purpose}
 use Rattle.norec_core.specs.declared.call_parts.Reading.{Reading}
 use Rattle.word_pieces.specs.Pieces.{count_of}
-use Rattle.access_rules.proofs.CopyChunks.{few_words, source_few}
+use Rattle.access_rules.{proofs.CopyChunks.few_words, proofs.CopyChunks.source_few, proofs.CopyChunks.length-chunks_in}
 use Rattle.norec_core.specs.Copies.{source_words}
-use Rattle.std.proofs.Math.Nat.{mul-le-mul_right}
-use Rattle.std.proofs.lemmas.Nat.{mul-le}
-use Rattle.itm_types.specs.declared.limits.TheConstants.{MAX_PATIENCE}
+use Rattle.std.{proofs.Math.Nat.mul-le-mul_right, proofs.lemmas.Nat.mul-le}
 use Rattle.norec_core.specs.declared.call_parts.Purpose.TheVariants as for
 use Rattle.norec_turns.proofs.AcceptedCopies.{source_within}
-use Rattle.access_rules.proofs.CopyChunks.{length-chunks_in}
 use Rattle.norec_core.specs.Aims as aims
 use Rattle.norec_core.specs.Phases as at
 use Rattle.norec_core.specs.declared.call_parts.Taking.TheVariants as takings

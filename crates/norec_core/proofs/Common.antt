@@ -1,5 +1,5 @@
 -- The names that more than one proof cites, passed on from one place. Declares nothing.
-pub use Rattle.itm_model.specs.Machine.{after, after_unless, answer, back, effect, entered, in_shared, irrevocable_from, is_clear, is_open, keeps_any, keeps_innermost, keeps_revocable, made_irrevocable as made_so, needs_open, or_else, pushed, refusal, reply, reply_unless, rolled_back as plainly_back, source_range, target_range, undone_from, unless}
+pub use Rattle.itm_model.specs.Machine.{after, after_unless, answer, back, effect, entered, in_shared, irrevocable_from, is_open, keeps_any, keeps_innermost, keeps_revocable, made_irrevocable as made_so, needs_open, or_else, pushed, refusal, reply, reply_unless, rolled_back as plainly_back, source_range, target_range, undone_from, unless}
 pub use Rattle.itm_model.specs.State.{Block, State}
 pub use Rattle.itm_types.specs.Access.{size_of}
 pub use Rattle.itm_types.specs.Calls.{access_of, is_abort, is_begin}
@@ -22,7 +22,7 @@ pub use Rattle.itm_types.specs.declared.datum.Datum.{Datum}
 pub use Rattle.itm_types.specs.declared.row.LogRow.{LogRow}
 pub use Rattle.itm_types.specs.declared.step.Step.{Step}
 pub use Rattle.itm_types.specs.declared.step.Step.TheVariants.{Cas, Load, Store}
-pub use Rattle.nest_frames.specs.Nest.{actions_back, actions_cancelled, actions_closed, arena_back, begun, closed, Frame, is_kept, log_of, logged, made_irrevocable, reads_of, stays_revocable}
+pub use Rattle.nest_frames.specs.Nest.{actions_back, actions_cancelled, actions_closed, arena_back, begun, closed, Frame, is_kept, log_of, made_irrevocable, reads_of, stays_revocable}
 pub use Rattle.norec_core.specs.Accesses.{access_refusal, mode_refusal}
 pub use Rattle.norec_core.specs.Aims.{Aim}
 pub use Rattle.norec_core.specs.Copies.{arena_refusal, chunks_in, copy_refusal, direction_of, shared_refusal, source_in, source_refusal, source_words, target_refusal, words_read, words_written}
@@ -42,10 +42,10 @@ pub use Rattle.norec_core.specs.declared.answer.Answer.{Answer}
 pub use Rattle.norec_core.specs.declared.answer.Answer.TheVariants.{Busy, Committed, Conflict, Full, Reply, Restarted}
 pub use Rattle.norec_core.specs.declared.answer.Next.{Next}
 pub use Rattle.norec_core.specs.declared.answer.Next.TheVariants.{Answer as Answers, Step as Asks}
-pub use Rattle.undo_log.specs.Rollback.{found, kept_from, kept_of, Old, put_back}
+pub use Rattle.undo_log.specs.Rollback.{kept_from, kept_of, Old, put_back}
 pub use Rattle.user_actions.specs.Actions.{Actions, as_commit, as_undo, committed, cut_back, no_actions, registered, total}
 pub use Rattle.word_pieces.specs.Pieces.{count_of, scattered}
 pub use Rattle.write_set.specs.Rows.{overlay, put, row, row_with}
 pub use Rattle.write_set.specs.declared.row.Row.{Row}
-pub use Rattle.std.proofs.lemmas.Bool.{and_parts, both_ways, cases_Bool, cond-true, cond_both, false_from_ne_true, le-leb, leb-true, lt-ltb, ltb-true}
+pub use Rattle.std.proofs.lemmas.Bool.{both_ways, cases_Bool, cond-true, cond_both, false_from_ne_true, le-leb, lt-ltb}
 pub use Rattle.std.proofs.lemmas.List.{length-map, length-reverse, length-take-le, take-append-drop}

@@ -1,9 +1,6 @@
 -- A call is in progress just where something is waited for.
-use Rattle.norec_data.specs.declared.data.Data.{Data}
-use Rattle.norec_data.specs.declared.pending.Pending.{Pending}
+use Rattle.norec_data.{specs.declared.data.Data.Data, specs.declared.pending.Pending.Pending, specs.Turns.IsOn, specs.Turns.IsWaiting, specs.View.phase_of}
 use Rattle.norec_data.specs.declared.pending.Pending.TheVariants as waits
-use Rattle.norec_data.specs.Turns.{IsOn, IsWaiting}
-use Rattle.norec_data.specs.View.{phase_of}
 
 pub is_waiting : (d : Data) (p : Pending) → IsOn (phase_of d p) → IsWaiting p
 is_waiting d waits.Idle on = absurd on

@@ -3,9 +3,7 @@ use Rattle.std.proofs.Common.{◌≡◌, ℕ, false, List, [], None}
 use Rattle.user_actions.specs.Actions.{Actions}
 use Rattle.norec_core.specs.Phases as at
 use Rattle.norec_core.specs.Core.{ended}
-use Rattle.norec_data.specs.declared.data.Data.{Data}
-use Rattle.norec_data.specs.Turns.{IsEnded}
-use Rattle.norec_data.specs.View.{core}
+use Rattle.norec_data.{specs.declared.data.Data.Data, specs.Turns.IsEnded, specs.View.core}
 
 pub core_ended : (old new : Data) (arena : List ℕ) (actions : Actions) → IsEnded old arena actions new → core new at.Idle ≡ record (ended (core old at.Idle)) { tries = 0; arena = arena; actions = actions }
 core_ended old new arena actions e = λ i. record {

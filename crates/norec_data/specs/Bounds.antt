@@ -1,13 +1,13 @@
 -- What is true of the fields in every phase, and between the calls of an irrevocable transaction.
 use Rattle.std.specs.Prelude.{◌≡◌, ℕ, ◌/◌, ◌%◌, ◌<◌, ◌≤◌, true, false, List, [], length}
-use Rattle.itm_types.specs.declared.limits.Limits.{Limits}
 use Rattle.itm_types.specs.declared.limits.TheConstants.{MAX_COMMITS, MAX_PATIENCE, MAX_WORDS}
 use Rattle.write_set.specs.Marks.{unwritten}
 use Rattle.norec_data.specs.declared.data.Data.{Data}
+use Rattle.norec_data.specs.declared.limits.EngineLimits.{EngineLimits}
 use Rattle.norec_data.specs.View.{in_block}
 
 -- in every phase
-pub record IsBounded (words : ℕ) (limits : Limits) (restarted snapshot size depth : ℕ) (arena : List ℕ) : Type 0 where
+pub record IsBounded (words : ℕ) (limits : EngineLimits) (restarted snapshot size depth : ℕ) (arena : List ℕ) : Type 0 where
   pub patient : (0 < limits.patience) × (limits.patience ≤ MAX_PATIENCE)
   pub commits : limits.max_commits ≤ MAX_COMMITS
   pub few : restarted ≤ limits.restarts

@@ -7,8 +7,9 @@ ghost use Rattle.norec_core.specs.Core.{is_outermost};
 ghost use Rattle.norec_data.specs.View.{in_block};
 ghost use Rattle.norec_data.specs.Turns.{IsEnded};
 
+use crate::limits::EngineLimits;
 use crate::pending::Cause;
-use itm_types::{Datum, Limits, Refusal, Value};
+use itm_types::{Datum, Refusal, Value};
 use nest_frames::Frames;
 use norec_core::{Opening, Reading, Taking, Writing};
 use undo_log::Arena;
@@ -18,7 +19,7 @@ use value_log::ValueLog;
 #[derive(Drop)]
 pub struct Data {
     pub words: u32,
-    pub limits: Limits,
+    pub limits: EngineLimits,
     pub arena: Arena,
     /// The even clock value at which the value log holds.
     pub snapshot: u64,

@@ -4,6 +4,7 @@
 mod copies;
 mod data;
 mod end;
+mod limits;
 mod pending;
 mod refusals;
 mod turn;
@@ -11,6 +12,7 @@ mod turn;
 pub use copies::{chunk_reading, chunks, direction};
 pub use data::{Data, finish, roll_back};
 pub use end::CallEnd;
+pub use limits::EngineLimits;
 pub use pending::{Cause, Pending};
 pub use refusals::{access_refusal, begin_refusal, copy_refusal, mode_refusal};
 pub use turn::Turn;

@@ -5,10 +5,7 @@ use Rattle.itm_types.specs.declared.limits.TheConstants.{MAX_WORDS}
 use Rattle.itm_types.specs.declared.call.Copying.{Copying}
 use Rattle.itm_types.specs.declared.copy.CopyPair.{CopyPair}
 use Rattle.itm_types.specs.declared.copy.CopyPair.TheVariants.{Out, In, Within}
-use Rattle.word_pieces.specs.declared.chunk.Chunk.{Chunk}
-use Rattle.word_pieces.specs.declared.chunk.Direction.TheVariants.{Up}
-use Rattle.word_pieces.specs.Chunks.{chunks_of}
-use Rattle.word_pieces.specs.Pieces.{count_of}
+use Rattle.word_pieces.{specs.declared.chunk.Chunk.Chunk, specs.declared.chunk.Direction.TheVariants.Up, specs.Chunks.chunks_of, specs.Pieces.count_of}
 use Rattle.norec_core.specs.Phases as at
 use Rattle.norec_core.specs.declared.call_parts.Purpose.{Purpose}
 use Rattle.norec_core.specs.declared.call_parts.Purpose.TheVariants as for

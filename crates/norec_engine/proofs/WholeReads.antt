@@ -1,17 +1,12 @@
 -- The steps of a read of one whole word, for the engine as its callers see it.
 use Rattle.std.proofs.Common.{◌≡◌, ◌+◌, inl, ℕ, suc, Bool, true, false, None, length, refl, sym, ap, subst, ◌∙◌, arith}
 use Rattle.norec_engine.proofs.Common.{Answers, Asks, Bytes, CallTurns, Confirm, Core, Data, End, Idle, IsCalled, IsResumed, IsSound, IsSoundIn, IsTaken, IsWord, Joins, Next, Pending, Phase, Read, Reply, StepGoesTo, StepTurns, StepTurnsIn, Turn, Wait, Word, core, counted, engine_in, lookup, phase_of, rows_before, step_of, value_reading}
-use Rattle.std.proofs.lemmas.List.{take_all}
-use Rattle.std.specs.Int.{w64, to_le_bytes}
-use Rattle.itm_types.specs.declared.access.ReadHint.{ReadHint}
-use Rattle.itm_types.specs.declared.access.Width.{Width}
+use Rattle.std.{proofs.lemmas.List.take_all, specs.Int.w64, specs.Int.to_le_bytes}
+use Rattle.itm_types.{specs.declared.access.ReadHint.ReadHint, specs.declared.access.Width.Width}
 use Rattle.itm_types.specs.declared.step.Step.TheVariants as steps
-use Rattle.norec_core.specs.OwnAccesses.{word_of}
-use Rattle.norec_core.specs.Phases.{Load}
-use Rattle.norec_core.specs.declared.call_parts.Reading.{Reading}
+use Rattle.norec_core.{specs.OwnAccesses.word_of, specs.Phases.Load, specs.declared.call_parts.Reading.Reading}
 use Rattle.norec_data.specs.declared.pending.Pending.TheVariants as waits
-use Rattle.norec_accesses.specs.WholeReads.{asking_word, IsNewWord, ReadTurns}
-use Rattle.norec_accesses.proofs.ReadCalls.WholeReads.{is_word}
+use Rattle.norec_accesses.{specs.WholeReads.asking_word, specs.WholeReads.IsNewWord, specs.WholeReads.ReadTurns, proofs.ReadCalls.WholeReads.is_word}
 use Rattle.norec_engine.specs.WholeReads.{ConfirmsWord, IsConfirmed, IsReadAtOnce, LoadsWord, ReadsAtOnce}
 use Rattle.norec_engine.proofs.EitherTurns.{resumed_in, revocable_step}
 use Rattle.norec_engine.proofs.IdleEngines.{asks_for, core_idle, left_is, left_sound, sound_idle}

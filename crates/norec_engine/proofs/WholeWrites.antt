@@ -1,8 +1,7 @@
 -- A write of one whole word that is not refused, for the engine as its callers see it.
 use Rattle.std.proofs.Common.{◌≡◌, ℕ, Bool, true, false, None, refl, sym, ap, ◌∙◌}
 use Rattle.norec_engine.proofs.Common.{Answers, CallTurns, Core, Data, Done, End, IsCalled, IsSound, IsSoundIn, IsTaken, Pending, Phase, Reply, Write, access_refusal, engine_in, in_block, in_transaction, phase_of, size_of}
-use Rattle.itm_types.specs.declared.access.WriteHint.{WriteHint}
-use Rattle.itm_types.specs.declared.datum.Datum.{Datum}
+use Rattle.itm_types.{specs.declared.access.WriteHint.WriteHint, specs.declared.datum.Datum.Datum}
 use Rattle.norec_core.specs.Phases as at
 use Rattle.norec_data.specs.declared.end.CallEnd.TheVariants as ends
 use Rattle.norec_engine.specs.WholeWrites.{ServesWrite}

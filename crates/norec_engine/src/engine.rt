@@ -21,7 +21,7 @@ use itm_types::{
 };
 use nest_frames::Frames;
 use norec_core::{Answer, Opening, Purpose, Reading, Taking, Target, Undone, Writing};
-use norec_data::{Cause, Data, Pending, roll_back};
+use norec_data::{Cause, Data, EngineLimits, Pending, roll_back};
 use std::alloc::{AllocError, Global};
 use std::marker::Model;
 use undo_log::Arena;
@@ -74,7 +74,11 @@ impl Engine {
         Ok(Engine {
             state: Data {
                 words,
-                limits,
+                limits: EngineLimits {
+                    patience: limits.patience,
+                    max_commits: limits.max_commits,
+                    restarts: limits.restarts,
+                },
                 frames,
                 arena,
                 snapshot: 0,

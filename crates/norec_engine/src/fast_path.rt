@@ -164,13 +164,10 @@ impl Engine {
         ensures { result ≡ true → ServesWrite self.now at value.now }
     {
         let size = u64::from(value.width.size());
-        if self.irrevocable || at % 8 + size > 8 {
-            return false;
-        }
-        if !self.state.is_open() || at / 8 >= u64::from(self.state.words) {
-            return false;
-        }
-        true
+        !self.irrevocable
+            && at % 8 + size <= 8
+            && self.state.is_open()
+            && at / 8 < u64::from(self.state.words)
     }
 
     /// `call_into` of such a write, where there is memory for it: it is done.

@@ -1,7 +1,8 @@
 -- The names that more than one proof cites, passed on from one place. Declares nothing.
-pub use Rattle.access_rules.proofs.CopyChunks.{chunk_there, chunk_within, length-gathered-all}
+pub use Rattle.access_rules.proofs.CopyChunks.{chunk_part, chunk_there, length-gathered-all}
 pub use Rattle.access_rules.proofs.Overlays.{fit-zeros, index_of}
-pub use Rattle.access_rules.proofs.Readings.{length-part_of, none_count, none_drop, some_count, some_drop, words_in-next}
+pub use Rattle.access_rules.proofs.Readings.{is_piece, no_pieces, none_drop, none_there, piece_here, piece_there, some_count_of, some_drop, words_in-next}
+pub use Rattle.access_rules.proofs.ServedCalls.{served, serves, source_within, target_within}
 pub use Rattle.itm_model.specs.Machine.{after, after_unless, answer, bytes_reply, copied, effect, entered, is_clear, is_open, keeps_any, keeps_innermost, keeps_revocable, or_else, pushed, refusal, reply, reply_unless, source_bytes, target_written, unless, written as written_at}
 pub use Rattle.itm_model.specs.State.{State}
 pub use Rattle.itm_types.proofs.Words.{length-bytes_of}
@@ -25,6 +26,7 @@ pub use Rattle.itm_types.specs.declared.copy.CopyPair.TheVariants.{In, Out, With
 pub use Rattle.itm_types.specs.declared.datum.Datum.{Datum}
 pub use Rattle.nest_frames.specs.Nest.{begun, Frame, is_kept, stays_revocable}
 pub use Rattle.norec_core.proofs.Engines.KeptFields.{anew_within, came_restarted}
+pub use Rattle.norec_core.proofs.Engines.Machines.{refuses}
 pub use Rattle.norec_core.proofs.Replies.CopyRefusals.{accepted_sides, arena_within, shared_within, source_is, target_is}
 pub use Rattle.norec_core.specs.Accesses.{access_refusal, begin_refusal, mode_refusal, part}
 pub use Rattle.norec_core.specs.Copies.{chunks_in, copy_refusal, direction_of, is_out, source_refusal, target_refusal, words_in, WritesShared}

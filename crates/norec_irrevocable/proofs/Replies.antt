@@ -5,3 +5,4 @@ pub mod HeldBlocks
 pub mod HeldAccesses
 pub mod Completions
 pub mod Refusals
+pub mod PartsOfCalls

@@ -1,18 +1,12 @@
 -- Calls that are answered with no step.
 use Rattle.std.proofs.Common.{◌≡◌, ℕ, ◌+◌, ◌*◌, ◌<◌, ◌≤◌, ◌&&◌, nat_le, Bool, true, false, length, Option, None, Some, refl, sym, ap, subst, if◌then◌else◌}
 use Rattle.norec_turns.proofs.Common.{Action, ActionKind, Call, CommitAction, Data, End, Fill, Idle, IsSound, IsSoundTurn, Log, LogBytes, MayStarve, Refusal, Refused, Replies, Stays, TurnEndsSo, Turns, UndoAction, access_of, access_refusal, came, core, in_block, logged_of, registered_by, size_of, stage_at}
-use Rattle.norec_core.specs.declared.answer.Answer.{Answer}
-use Rattle.norec_data.specs.declared.end.CallEnd.{CallEnd}
-use Rattle.norec_turns.specs.Moves.{CallTurns}
+use Rattle.norec_core.{specs.declared.answer.Answer.Answer, specs.Endings.ending_at}
+use Rattle.norec_data.{specs.declared.end.CallEnd.CallEnd, proofs.RefusedAccesses.access_ending, proofs.RefusedAccesses.refused_stage}
+use Rattle.norec_turns.{specs.Moves.CallTurns, specs.Moves.CallStarves, proofs.Cancels.come, proofs.LocalReplies.come_sound, proofs.Refusals.refused_replies}
 use Rattle.itm_types.specs.declared.access.WriteHint.{WriteHint}
-use Rattle.norec_core.specs.Endings.{ending_at}
 use Rattle.itm_types.specs.declared.call.ActionKind.TheVariants as kinds
-use Rattle.norec_data.proofs.RefusedAccesses.{access_ending, refused_stage}
 use Rattle.norec_data.specs.declared.end.CallEnd.TheVariants as ends
-use Rattle.norec_turns.specs.Moves.{CallStarves}
-use Rattle.norec_turns.proofs.Cancels.{come}
-use Rattle.norec_turns.proofs.LocalReplies.{come_sound}
-use Rattle.norec_turns.proofs.Refusals.{refused_replies}
 
 -- a call of which no step is asked, and which does not end the transaction
 pub record IsAtOnce (s : Data) (call : Call) : Type 0 where

@@ -1,21 +1,15 @@
 -- A piece that is loaded, and the chunk of a copy's source that it may be one of.
 use Rattle.std.proofs.Common.{◌≡◌, ℕ, ◌+◌, ◌*◌, ◌≤◌, ◌==◌, Bool, true, false, if◌then◌else◌, List, [], ◌++◌, length, take, replicate, Option, None, Some, slice_get, refl, sym, ap, subst, ◌∙◌, arith, append-nil, option_map}
 use Rattle.norec_turns.proofs.Common.{Aims, CopyPair, Copying, Data, In, IsMissing, IsOpen, IsReading, IsSoundTurn, Load, LogRow, MayCopy, MayLog, MayRead, Out, Taking, Turns, Wait, Wants, Within, between, chunk_reading, chunks_in, core, direction_of, drop_all, is_out, length-replicate, passed, passed_for, passed_on, round_of, slice, source_in, total, with_slice}
-use Rattle.norec_core.specs.Aims.{Aim}
+use Rattle.norec_core.{specs.Aims.Aim, specs.declared.call_parts.Reading.Reading}
 use Rattle.arrayvec.specs.ArrayVec.{ArrayVec}
-use Rattle.word_pieces.specs.declared.chunk.Chunk.{Chunk}
+use Rattle.word_pieces.{specs.declared.chunk.Chunk.Chunk, proofs.Covers.word-pieces_of, proofs.ChunkBytes.all-written, specs.Chunks.chunks_written}
 use Rattle.norec_data.specs.Bounds.{IsBounded}
-use Rattle.norec_turns.specs.Between.{logged}
-use Rattle.norec_core.specs.declared.call_parts.Reading.{Reading}
-use Rattle.access_rules.proofs.CopyChunks.{chunk_within}
-use Rattle.word_pieces.proofs.Covers.{word-pieces_of}
-use Rattle.word_pieces.proofs.ChunkBytes.{all-written}
-use Rattle.word_pieces.specs.Chunks.{chunks_written}
+use Rattle.norec_turns.{specs.Between.logged, proofs.AcceptedCopies.source_within}
+use Rattle.access_rules.{proofs.CopyChunks.chunk_within, proofs.CopyChunks.no_chunk}
 use Rattle.norec_data.specs.declared.pending.Pending.TheVariants as waits
 use Rattle.norec_core.specs.Aims as aims
 use Rattle.norec_core.specs.declared.call_parts.Taking.TheVariants as takings
-use Rattle.norec_turns.proofs.AcceptedCopies.{source_within}
-use Rattle.access_rules.proofs.CopyChunks.{no_chunk}
 
 -- an engine with other bytes gathered is as open
 pub open_gathering : (d : Data) (g : ArrayVec ℕ) → IsOpen d → IsOpen (record d { gathered = g })

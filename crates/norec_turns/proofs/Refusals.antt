@@ -1,8 +1,7 @@
 -- Replies that leave an engine as it was but for the counts and perhaps the arena: refusals, and what the thread's own state answers.
 use Rattle.std.proofs.Common.{◌≡◌, ℕ, ◌+◌, ◌*◌, ◌≤◌, nat_le, Bool, true, false, List, length, Option, None, Some, refl, sym, ap, subst, ◌∙◌, inl, inr, if◌then◌else◌}
 use Rattle.norec_turns.proofs.Common.{Call, Code, Core, Data, Done, Fill, Idle, InTransaction, IsMemory, IsSound, Nest, OutOfArena, OutOfRange, Read, Refusal, Refused, Replies, Save, State, Write, access_of, access_refusal, access_refused, actions_after, after, after_unless, arena_after, begins_anew, blocks_after, blocks_over-same, came, cases_Bool, core, effect, in_block, is_inside, le-leb, leb-true, open_is, reply, reply_unless, room_left, size_of, state_over, unless, with_slice, writes_after}
-use Rattle.itm_types.specs.declared.datum.Datum.{Datum}
-use Rattle.itm_types.specs.declared.call.Reply.{Reply as Replied}
+use Rattle.itm_types.{specs.declared.datum.Datum.Datum, specs.declared.call.Reply.Reply as Replied}
 use Rattle.norec_core.proofs.Replies.AnsweredEngines.{told_plainly}
 use Rattle.norec_core.proofs.Replies.RefusedCalls.{writes_kept, blocks_kept, arena_kept, actions_kept}
 

@@ -1,5 +1,5 @@
 pub mod Views
 pub mod Listed
-pub mod Beginnings
+pub mod WorldBegins
 pub mod Calls
 pub mod Taken

@@ -4,7 +4,7 @@ ghost use Rattle.std.specs.Prelude.{◌≡◌, ◌<◌, ◌≤◌, [], length, I
 ghost use Rattle.itm_types.specs.declared.limits.TheConstants.{MAX_ACTORS, MAX_ARENA, MAX_COMMITS, MAX_PATIENCE, MAX_RETRIES};
 ghost use Rattle.world_rules.specs.Rows.{rows_in};
 ghost use Rattle.world_rules.specs.Starts.{IsNewActor};
-ghost use Rattle.norec_world.specs.Beginnings.{HaveAllStarted, IsFresh};
+ghost use Rattle.norec_world.specs.WorldBegins.{AreNewCells, HaveAllStarted};
 
 use crate::actor::{Actor, ending, fresh};
 use crate::memory::Memory;
@@ -41,7 +41,7 @@ pub(crate) fn start_all<P: Player>(
 ) -> Result<Vec<Actor<P>>, AllocError>
     requires few { length players.items ≤ MAX_ACTORS }
     requires outside { All (λ p. P.depth p ≡ 0) players.items }
-    requires fresh { IsFresh memory.now }
+    requires fresh { AreNewCells memory.now }
     requires empty { ended.old.items ≡ [] }
     ensures { IfOk result (λ actors. HaveAllStarted P.Player memory.now terms.arena terms.limits players.items (rows_in ended.new) actors.items) }
 {
@@ -64,7 +64,7 @@ fn start<P: Player>(
     player: P,
 ) -> Result<Actor<P>, AllocError>
     requires outside { P.depth player ≡ 0 }
-    requires fresh { IsFresh memory.now }
+    requires fresh { AreNewCells memory.now }
     ensures { IfOk result (IsNewActor P.Player memory.now terms.arena terms.limits thread player (rows_in ended.old) (rows_in ended.new)) }
 {
     let arena = Arena::new(alloc, terms.arena as usize)?;

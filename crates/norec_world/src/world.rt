@@ -57,7 +57,7 @@ impl<P: Player> World<P> {
     ghost use Rattle.world_rules.specs.Rows.{AreOpen};
     ghost use Rattle.world_rules.specs.Stages.{opens};
     ghost use Rattle.norec_world.specs.Listed.{left_of};
-    ghost use Rattle.norec_world.specs.Beginnings.{BeginsAs, MayBegin, MayPlay};
+    ghost use Rattle.norec_world.specs.WorldBegins.{BeginsAs, MayPlay, MaySetUp};
     ghost use Rattle.norec_world.specs.Taken.{TakesSome};
     ghost use Rattle.world_rules.specs.Commits.{CommitsInOrder};
     ghost use Rattle.world_rules.specs.Headline.{AreOpaque};
@@ -67,7 +67,7 @@ impl<P: Player> World<P> {
 
     /// A world over this memory, with the clock at 0. Each actor's local work up to its first operation is done.
     pub fn new(alloc: Global, setup: Setup, players: Vec<P>) -> Result<Self, AllocError>
-        requires setup { MayBegin setup }
+        requires setup { MaySetUp setup }
         requires players { MayPlay P.Player players.items }
         ensures begins { IfOk result (BeginsAs P.Player setup players.items) }
         ensures commits { IfOk result (λ w. CommitsInOrder w) }

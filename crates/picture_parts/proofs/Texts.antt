@@ -1,11 +1,10 @@
 -- Texts that are written one after another.
-use Rattle.std.proofs.Common.{◌≡◌, ℕ, zero, suc, ◌+◌, ◌-◌, ◌<◌, List, [], ◌++◌, length, Option, Result, Ok, Err, refl, sym, ap, subst, ◌∙◌, arith, append-nil, append_assoc, add-one}
+use Rattle.std.proofs.Common.{◌≡◌, ℕ, zero, suc, ◌+◌, ◌-◌, ◌<◌, List, [], ◌++◌, length, Option, Result, Ok, Err, refl, sym, ap, subst, ◌∙◌, arith, append-nil, append_assoc, add-one, IsErr}
 use Rattle.std.proofs.KnownBytes.{Appends-nil, Appends-trans}
 use Rattle.std.proofs.lemmas.List.{length-append}
 use Rattle.std.proofs.Math.Seq.{take-append-add}
 use Rattle.std.specs.Io.KnownBytes.{Appends}
-use Rattle.tx_history.specs.Spelling.{IsCut, Puts}
-use Rattle.tx_history.proofs.TextPieces.{cut_short}
+use Rattle.tx_history.{specs.Spelling.IsCut, specs.Spelling.Puts, proofs.TextPieces.cut_short}
 use Rattle.picture_parts.specs.Texts.{first_texts}
 
 module _ (text : ℕ → List ℕ) where
@@ -43,6 +42,11 @@ module _ (text : ℕ → List ℕ) where
       subst (λ (m : ℕ). IsCut a c (first_texts text m)) there (cut_short a b c (first_texts text i) (text i) on.0 (first_texts text (with_later i d)) p q on.1)
 
 -- ## Two of them, or three
+
+-- a write failed
+pub puts_cut : {A E : Type 0} (u v : Option (List ℕ)) (r : Result A E) (x : List ℕ) → IsErr r → IsCut u v x → Puts u v r x
+puts_cut u v (Ok y) x failed cut = absurd cc
+puts_cut u v (Err e) x failed cut = cut
 
 pub puts_then : {B F : Type 0} (u v w : Option (List ℕ)) (x y : List ℕ) (r : Result B F) → Appends u v x → Puts v w r y → Puts u w r (x ++ y)
 puts_then u v w x y (Ok z) p q = Appends-trans u v w x y p q

@@ -34,7 +34,7 @@ pub use Rattle.tx_history.specs.Bounds.{AreLimited, AttemptFits, HistoryFits, Is
 unfoldable pub use Rattle.tx_history.specs.Histories.{arena_line, attempt_lines, body_text, call_line, first_lines, head_line, history_text, last_line, props_end, reply_text, try_text}
 pub use Rattle.tx_history.specs.Spelling.{IsCut, Puts, Writes}
 unfoldable pub use Rattle.tx_history.specs.Streams.{Adds}
-pub use Rattle.tx_history.specs.Streams.{fault_of, lines_so_far, Sends, Standing, standing}
+pub use Rattle.tx_history.specs.Streams.{fault_of, lines_so_far, Sends, StreamState, stream_state}
 pub use Rattle.tx_history.specs.declared.history.History.{History}
 pub use Rattle.tx_history.specs.declared.history.Version.{Version}
 pub use Rattle.tx_history.specs.declared.page.Page.{Page}

@@ -5,8 +5,7 @@ use Rattle.world_rules.proofs.Common.{slice_get_within}
 use Rattle.script_laws.proofs.FedScripts.{are_fed}
 use Rattle.world_laws.specs.Starved.{IsFed, LeavesNoneOpen}
 use Rattle.world_laws.proofs.LegalHistories.StarvedActors.{fed_leave_none_open, starved_shut}
-use Rattle.run_commands.proofs.Items.{IsLed}
-use Rattle.run_commands.proofs.ScheduleItems.{led_keeps}
+use Rattle.run_commands.{proofs.Items.IsLed, proofs.ScheduleItems.led_keeps}
 
 module _ (p : Listing) (nested : HasNestedCode p) (first w : World Thread) (begins : Begins p first) (schedule : List ℕ) (led : IsLed thread_rules first schedule w) (commits : CommitsInOrder w) (tied : AreTied thread_rules w) where
   players : w.opening ≡ players_of p

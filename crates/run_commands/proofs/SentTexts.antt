@@ -1,6 +1,6 @@
 -- Texts that calls of a stream write, one after another.
 use Rattle.std.proofs.Common.{◌≡◌, ℕ, ◌+◌, ◌<◌, ◌≤◌, All, List, ◌++◌, length, take, flat_map, get_or, Option, None, Result, Ok, Err, refl, sym, ap, ◌∙◌, subst, arith, OnOk}
-use Rattle.run_commands.proofs.Common.{All-more, All-nil, Attempt, AttemptFits, Error, Page, Sends, adds_attempt, adds_failed, adds_nothing, adds_then, attempt_lines, common_steps, fault_of, result_err, standing}
+use Rattle.run_commands.proofs.Common.{All-more, All-nil, Attempt, AttemptFits, Error, Page, Sends, adds_attempt, adds_failed, adds_nothing, adds_then, attempt_lines, common_steps, fault_of, result_err, stream_state}
 use Rattle.run_commands.proofs.Plays.{attempts_stopped}
 
 both : {A S : Type 0} (T : Type 0) (r : Result A Error) → S → OnOk r T → OnOk r (S × T)
@@ -39,7 +39,7 @@ module _ {W : Type 0} (contents : W → Option (List ℕ)) (all : List Attempt) 
   SendsFirst a b i = Sends {A = Unit {0}} contents a b (flat_map attempt_lines (take i all)) (All AttemptFits (take i all)) (Ok tt)
 
   pub sends_unbegun : (a : Page W) → fault_of a ≡ None → SendsFirst a a 0
-  sends_unbegun a fresh = record { same = refl; adds = adds_nothing (standing contents a); answer = fresh; fits = All-nil AttemptFits }
+  sends_unbegun a fresh = record { same = refl; adds = adds_nothing (stream_state contents a); answer = fresh; fits = All-nil AttemptFits }
 
   pub sends_next : (a b c : Page W) (i : ℕ) (d : Attempt) {A : Type 0} (x : A) → i < length all → SendsFirst a b i → Sends {A = A} contents b c (attempt_lines (get_or all i d)) (AttemptFits (get_or all i d)) (Ok x) → SendsFirst a c (i + 1)
   sends_next a b c i d x h p q = record {

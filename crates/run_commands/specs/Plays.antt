@@ -14,7 +14,7 @@ use Rattle.tx_attempts.specs.declared.attempt.Attempt.{Attempt}
 use Rattle.tx_history.specs.Bounds.{AttemptFits}
 use Rattle.tx_history.specs.declared.history.Version.{Version}
 use Rattle.tx_history.specs.Histories.{attempt_lines, history_text}
-use Rattle.tx_history.specs.Streams.{Adds, Standing, fault_of, lent, lines_so_far, standing}
+use Rattle.tx_history.specs.Streams.{Adds, StreamState, fault_of, lent, lines_so_far, stream_state}
 use Rattle.tx_history.specs.declared.page.Page.{Page}
 use Rattle.tx_player.specs.Rules.{Rules}
 use Rattle.run_commands.specs.Items.{ItemsBegin, ItemsLead}
@@ -29,7 +29,7 @@ abbrev pub HasWhole : Option (List ℕ) → Option (List ℕ) → List ℕ → T
 HasWhole old new text = (more : List ℕ) × Appends old new (text ++ more)
 
 -- the lines of the attempts that ended between the two worlds are added
-pub record AddsEnded {P : Type 0} (old new : World P) (s t : Standing) : Type 0 where
+pub record AddsEnded {P : Type 0} (old new : World P) (s t : StreamState) : Type 0 where
   pub base : new.base ≡ old.base
   pub more : List Attempt
   pub ended : new.attempts.ended ≡ old.attempts.ended ++ more
@@ -40,7 +40,7 @@ pub record AddsEnded {P : Type 0} (old new : World P) (s t : Standing) : Type 0 
 pub record SendsEnded {P W A : Type 0} (contents : W → Option (List ℕ)) (old new : World P) (s t : Page W) (result : Result A Error) : Type 0 where
   pub same : lent t ≡ lent s
   pub answer : fault_of t ≡ result_err result
-  pub adds : AddsEnded old new (standing contents s) (standing contents t)
+  pub adds : AddsEnded old new (stream_state contents s) (stream_state contents t)
 
 module _ {P : Type 0} (rules : Rules P) where
   -- an event leads from the one world to the other
@@ -48,7 +48,7 @@ module _ {P : Type 0} (rules : Rules P) where
   IsNext old new = (thread : ℕ) × (result : Result (Unit {0}) WorldFault) × IsTrue (is_event result) × Goes rules thread old result new
 
   -- a write failed after an event: the lines of all attempts that ended before that event came to the writer whole
-  pub record Fails (leads : World P → World P → Type 0) (old new : World P) (s t : Standing) : Type 0 where
+  pub record Fails (leads : World P → World P → Type 0) (old new : World P) (s t : StreamState) : Type 0 where
     pub before : World P
     pub first : leads old before
     pub last : IsNext before new
@@ -61,7 +61,7 @@ module _ {P : Type 0} (rules : Rules P) where
   pub record Performs {W A : Type 0} (contents : W → Option (List ℕ)) (all first : World P → World P → Type 0) (old new : World P) (s t : Page W) (result : Result A Error) : Type 0 where
     pub sends : SendsEnded contents old new s t result
     pub leads : OnOk result (all old new)
-    pub fails : OnErr result (Fails first old new (standing contents s) (standing contents t))
+    pub fails : OnErr result (Fails first old new (stream_state contents s) (stream_state contents t))
     pub actors : length new.actors ≡ length old.actors
 
   -- A write failed, or the handing on of what was written. Some first events of that were taken, and no other. What came to the writer is a beginning of the history: of its lines so far, or, after the last event, of all of it. And if an event was taken, then the lines of all attempts that had ended before the last one came to the writer whole.

@@ -8,7 +8,7 @@ ghost use Rattle.script_program.specs.declared.schedule.Item.TheVariants.{Out, T
 ghost use Rattle.script_program.specs.Listing.{thread_of};
 ghost use Rattle.tx_history.specs.Bounds.{HistoryFits};
 ghost use Rattle.tx_history.specs.Histories.{history_text};
-ghost use Rattle.tx_history.specs.Streams.{Sends, fault_of, standing};
+ghost use Rattle.tx_history.specs.Streams.{Sends, fault_of, stream_state};
 ghost use Rattle.run_commands.specs.Items.{ItemBegins, ItemLeads, ItemsBegin, ItemsLead};
 ghost use Rattle.world_laws.specs.Told.{told_of};
 ghost use Rattle.run_commands.specs.Plays.{IsPlayed, Performs, SendsEnded};
@@ -161,7 +161,7 @@ pub fn play<P: Player, W: Write>(
     ensures sends { Sends W.contents stream.old stream.new (history_text (told_of version world.new))
         (HistoryFits (told_of version world.new)) result }
     ensures played { IsPlayed P.Player version items.now
-        world.old world.new (standing W.contents stream.old).written (standing W.contents stream.new).written result }
+        world.old world.new (stream_state W.contents stream.old).written (stream_state W.contents stream.new).written result }
     ensures base { world.new.base ≡ world.old.base }
 {
     // (what holds of every world: the last fields of `played`)

@@ -1,6 +1,6 @@
 -- A block that goes back to its begin: where the engine stands then is where the attempt leads, cut to that begin, with its record.
-use Rattle.std.proofs.Common.{◌≡◌, ℕ, zero, suc, ◌≤◌, Bool, true, false, List, [], ◌∷◌, ◌++◌, length, map, take, drop, reverse, Option, None, Some, refl, sym, ap, ◌∙◌, append_assoc, if◌then◌else◌, ◌+◌, length-append, subst, arith, nat_lt}
-use Rattle.run_rules.proofs.Common.{Again, Agrees, AreAlike, AtEach, Attempt, Begin, Breaks, Call, CallRecord, Code, Core, Frame, HasBegun, IsAlone, IsMemory, Props, Ran, Refusal, Rules, Savepoint, State, StaysRevocable, after, after_unless, again_of, alike_before, alone_alike, arena_set, as_undo, at_each_also, back, begun_again, blocks_sized, breaks_in, breaks_of, bytes_of, cond-true, count_undone, cut_to, drop-append-le, due_at, earlier, effect, entered, irrevocable_from, is_open, kept_of, later, le-ltb, length-take, ltb-false, ltb-true, nothing, opened, pushed, put_back, refusal, renewed, reply, reply_unless, restored, run_on, stands_for, state_again_in, state_alike, state_then, state_under, take-append-drop, take-append-le, take-take, with_again}
+use Rattle.std.proofs.Common.{◌≡◌, ℕ, zero, suc, ◌≤◌, Bool, true, false, List, [], ◌∷◌, ◌++◌, length, map, take, drop, reverse, Option, None, Some, refl, sym, ap, ◌∙◌, append_assoc, if◌then◌else◌, ◌+◌, length-append, subst, arith, inl, inr, nat_lt}
+use Rattle.run_rules.proofs.Common.{Again, Agrees, AreAlike, AtEach, Attempt, Begin, Breaks, Call, CallRecord, Code, Core, Frame, HasBegun, IsAlone, IsMemory, Kept, Props, Ran, Refusal, Rules, Savepoint, State, StaysRevocable, after, after_unless, again_of, alike_before, alone_alike, arena_set, as_undo, at_each_also, back, begun_again, blocks_sized, breaks_in, breaks_of, bytes_of, cases_Bool, cond-true, count_undone, cut_to, drop-append-le, due_at, earlier, effect, entered, irrevocable_from, is_open, kept_of, later, le-ltb, length-take, lt-ltb, ltb-true, nothing, opened, pushed, put_back, refusal, renewed, reply, reply_unless, restored, run_on, stands_for, state_again_in, state_alike, state_then, state_under, take-append-drop, take-append-le, take-take, with_again}
 
 -- ## A begin that was accepted
 
@@ -104,29 +104,29 @@ under_still e e' b outer due m size commits undos ran =
     let around = blocks_sized outer e'.arena e.arena m size in
     λ i. record (state_under e' b outer due m) { blocks = around i; actions = record { commits = commits i; undos = undos i; ran = ran i } }
 
--- an open inner block is so known after one more call within the transaction, or within it and its block
-pub begun_still : {P : Type 0} (rules : Rules P) (deepest : ℕ) (by : P) (row : Attempt) (e e' : Core) (b : Frame) (outer : List Frame) (s : Savepoint) (x : CallRecord) (room : ℕ) (more : List Ran) → HasBegun rules deepest by row e b outer s
-    → e'.words ≡ e.words → take b.reads e'.log ≡ take b.reads e.log → nothing e'.arena ≡ nothing e.arena
+-- an open inner block is so known after more calls within the transaction, or within it and its block, and with other room for calls, elsewhere
+pub begun_still : {P : Type 0} (rules : Rules P) (deepest : ℕ) (by : P) (row : Attempt) (e e' : Core) (b : Frame) (outer : List Frame) (s : Savepoint) (at : ℕ) (calls : Kept) (ran : List Ran) (later : List CallRecord) (more : List Ran) → calls.list ≡ row.calls.list ++ later → ran ≡ row.ran ++ more
+    → HasBegun rules deepest by row e b outer s → e'.words ≡ e.words → take b.reads e'.log ≡ take b.reads e.log → nothing e'.arena ≡ nothing e.arena
     → take b.commits e'.actions.commits ≡ take b.commits e.actions.commits → take b.undos e'.actions.undos ≡ take b.undos e.actions.undos
     → take (due_at s row.restarts) e'.actions.ran ≡ take (due_at s row.restarts) e.actions.ran
-    → HasBegun rules deepest by (record row { calls = record { list = row.calls.list ++ x ∷ []; room = room }; ran = row.ran ++ more }) e' b outer s
-begun_still rules deepest by row e e' b outer s x room more h words log size commits undos ran =
+    → HasBegun rules deepest by (record row { at = at; calls = calls; ran = ran }) e' b outer s
+begun_still rules deepest by row e e' b outer s at calls ran later more calls_are ran_is h words log size commits undos due =
     let begin : CallRecord = record { call = Begin b.props h.room; reply = Code 5 } in
     let was : (m : List ℕ) → IsMemory e'.words m → IsMemory e.words m = λ m k. subst (λ (n : ℕ). IsMemory n m) words k in
     let had : (m : List ℕ) → Agrees m (take b.reads e'.log) → Agrees m (take b.reads e.log) = λ m a. subst (Agrees m) log a in
     record {
       before = h.before;
       room = h.room;
-      rest = h.rest ++ x ∷ [];
-      calls = ap (λ (xs : List CallRecord). xs ++ x ∷ []) h.calls ∙ append_assoc h.before (begin ∷ h.rest) (x ∷ []);
+      rest = h.rest ++ later;
+      calls = calls_are ∙ (ap (λ (xs : List CallRecord). xs ++ later) h.calls ∙ append_assoc h.before (begin ∷ h.rest) later);
       kept = h.kept;
-      few = (let few = h.few in let all = length-append row.ran more in omega arith);
+      few = omega (arith, h.few, ap (length {A = Ran}) ran_is, length-append row.ran more);
       stays = h.stays;
       sized = λ m k a. h.sized m (was m k) (had m a);
       under = λ m k a.
-          under_still e e' b outer (due_at s row.restarts) m size commits undos ran
+          under_still e e' b outer (due_at s row.restarts) m size commits undos due
           ∙ ap (λ (t : State). record t { arena = e'.arena }) (h.under m (was m k) (had m a));
-      told = λ m k a. take-append-le s.ran row.ran more h.few ∙ h.told m (was m k) (had m a);
+      told = λ m k a. ap (take s.ran) ran_is ∙ (take-append-le s.ran row.ran more h.few ∙ h.told m (was m k) (had m a));
       alone = λ m k a. h.alone m (was m k) (had m a);
       revocable = λ m k a. h.revocable m (was m k) (had m a);
     }
@@ -135,13 +135,10 @@ begun_still rules deepest by row e e' b outer s x room more h words log size com
 
 pub before_all : (k n : ℕ) (rs : List Again) → k ≤ n → (a : Again) → n ≤ a.kept → earlier k (earlier n rs ++ a ∷ []) ≡ earlier k rs
 before_all k n [] l a u = ap (λ (b : Bool). if b then a ∷ [] else []) (le-ltb a.kept k (omega (arith, l, u)))
-before_all k n (r ∷ rest) l a u = by_place (nat_lt r.kept n) (nat_lt r.kept k) refl refl (before_all k n rest l a u)
-  where
-    by_place : (c d : Bool) → nat_lt r.kept n ≡ c → nat_lt r.kept k ≡ d → earlier k (earlier n rest ++ a ∷ []) ≡ earlier k rest → earlier k (earlier n (r ∷ rest) ++ a ∷ []) ≡ earlier k (r ∷ rest)
-    by_place true true e f last = rw (e, f) (ap (λ (xs : List Again). r ∷ xs) last)
-    by_place true false e f last = rw (e, f) last
-    by_place false false e f last = rw (e, f) last
-    by_place false true e f last = absurd (let x = ltb-false r.kept n e in let y = ltb-true r.kept k f in omega arith)
+before_all k n (r ∷ rest) l a u = elim (cases_Bool (nat_lt r.kept k)) [
+  | inl f ↦ rw (lt-ltb r.kept n (omega (arith, l, ltb-true r.kept k f)), f) (ap (λ (xs : List Again). r ∷ xs) (before_all k n rest l a u))
+  | inr f ↦ elim (cases_Bool (nat_lt r.kept n)) [ inl e ↦ rw (e, f) (before_all k n rest l a u) | inr e ↦ rw (e, f) (before_all k n rest l a u) ]
+]
 
 take_past : (n : ℕ) (xs : List CallRecord) (x : CallRecord) (ys : List CallRecord) → suc (length xs) ≤ n → (zs : List CallRecord) × (take n (xs ++ x ∷ ys) ≡ xs ++ x ∷ zs)
 take_past zero xs x ys l = absurd (omega arith)
@@ -168,6 +165,10 @@ begun_cut rules deepest by row e e' b outer s t arena due h later fewer words lo
     let had : (m : List ℕ) → Agrees m (take b.reads e'.log) → Agrees m (take b.reads e.log) = λ m k. subst (Agrees m) log k in
     let same : due_at s (with_again a row.restarts) ≡ due_at s row.restarts = ap (λ (xs : List Again). s.ran + count_undone xs) (before_all s.kept a.kept row.restarts later a (let m : a.kept ≤ a.kept = omega arith in m)) in
     let low : suc (length h.before) ≤ a.kept = omega arith in
+    let led : (m : List ℕ) → state_then deepest (breaks_in row.restarts) (opened (bytes_of m) row.arena row.props) h.before ≡ state_then deepest (breaks_in (with_again a row.restarts)) (opened (bytes_of m) row.arena row.props) h.before = λ m.
+    state_alike deepest (breaks_in row.restarts) (breaks_in (with_again a row.restarts)) (opened (bytes_of m) row.arena row.props) h.before (nearer_alike a.kept (suc (length h.before)) (breaks_in row.restarts) (breaks_in (with_again a row.restarts)) low (alike_before a run_on row.restarts)) in
+    let told_led : (m : List ℕ) (xs : List CallRecord) → suc (length xs) ≤ a.kept → state_then deepest (breaks_of row.restarts) (opened (bytes_of m) row.arena row.props) xs ≡ state_then deepest (breaks_of (with_again a row.restarts)) (opened (bytes_of m) row.arena row.props) xs = λ m xs few.
+    state_alike deepest (breaks_of row.restarts) (breaks_of (with_again a row.restarts)) (opened (bytes_of m) row.arena row.props) xs (nearer_alike a.kept (suc (length xs)) (breaks_of row.restarts) (breaks_of (with_again a row.restarts)) few (alike_before a arena_set row.restarts)) in
     let one : length (h.before ++ begin ∷ []) ≡ suc (length h.before) = (let n = length-append h.before (begin ∷ []) in omega arith) in (
       record {
         before = h.before;
@@ -177,32 +178,22 @@ begun_cut rules deepest by row e e' b outer s t arena due h later fewer words lo
         kept = h.kept;
         few = (let few = h.few in let n = length-take t.ran row.ran in omega arith);
         stays = h.stays;
-        sized = λ m k g.
-            ap (λ (x : State). length x.arena)
-            (sym (state_alike deepest (breaks_in row.restarts) (breaks_in (with_again a row.restarts)) (opened (bytes_of m) row.arena row.props) h.before
-            (nearer_alike a.kept (suc (length h.before)) (breaks_in row.restarts) (breaks_in (with_again a row.restarts)) low (alike_before a run_on row.restarts))))
-            ∙ h.sized m (was m k) (had m g);
+        sized = λ m k g. ap (λ (x : State). length x.arena) (sym (led m)) ∙ h.sized m (was m k) (had m g);
         under = λ m k g.
             ap (λ (n : ℕ). state_under e' b outer n m) same
             ∙ (under_still e e' b outer (due_at s row.restarts) m size commits undos ran
             ∙ (ap (λ (x : State). record x { arena = e'.arena }) (h.under m (was m k) (had m g))
-            ∙ ap (λ (x : State). record x { arena = e'.arena })
-            (state_alike deepest (breaks_in row.restarts) (breaks_in (with_again a row.restarts)) (opened (bytes_of m) row.arena row.props) h.before
-            (nearer_alike a.kept (suc (length h.before)) (breaks_in row.restarts) (breaks_in (with_again a row.restarts)) low (alike_before a run_on row.restarts)))));
+            ∙ ap (λ (x : State). record x { arena = e'.arena }) (led m)));
         told = λ m k g.
             take-take s.ran t.ran row.ran fewer
             ∙ (h.told m (was m k) (had m g)
-            ∙ ap (λ (x : State). x.actions.ran)
-            (state_alike deepest (breaks_of row.restarts) (breaks_of (with_again a row.restarts)) (opened (bytes_of m) row.arena row.props) h.before
-            (nearer_alike a.kept (suc (length h.before)) (breaks_of row.restarts) (breaks_of (with_again a row.restarts)) low (alike_before a arena_set row.restarts))));
+            ∙ ap (λ (x : State). x.actions.ran) (told_led m h.before low));
         revocable = λ m k g.
             subst (AtEach (StaysRevocable deepest cut m) h.before) (sym (before_all s.kept t.kept row.restarts later a (let l : t.kept ≤ a.kept = omega arith in l)))
             (at_each_also (StaysRevocable deepest row m) (StaysRevocable deepest cut m) h.before (earlier s.kept row.restarts)
             (λ n was_so.
             (let few = length-take n h.before in
-            subst (λ (x : State). x.irrevocable ≡ false)
-            (state_alike deepest (breaks_of row.restarts) (breaks_of (with_again a row.restarts)) (opened (bytes_of m) row.arena row.props) (take n h.before)
-            (nearer_alike a.kept (suc (length (take n h.before))) (breaks_of row.restarts) (breaks_of (with_again a row.restarts)) (omega (arith, low, few)) (alike_before a arena_set row.restarts))) was_so))
+            subst (λ (x : State). x.irrevocable ≡ false) (told_led m (take n h.before) (omega (arith, low, few))) was_so))
             (h.revocable m (was m k) (had m g)));
         alone = λ m k g.
             alone_alike rules deepest (breaks_in row.restarts) (breaks_in (with_again a row.restarts)) by (opened (bytes_of m) row.arena row.props) (h.before ++ begin ∷ [])

@@ -2,19 +2,16 @@
 use Rattle.std.proofs.Common.{◌≡◌, ℕ, Bool, true, false, List, [], ◌∷◌, ◌++◌, length, map, Option, None, Some, refl, sym, ap, ◌∙◌, drop}
 use Rattle.run_rules.proofs.Common.{AreAlone, AtEach, Attempt, Begin, Between, Call, CallRecord, Code, Core, Done, IsMemory, IsOpenTry, Obeys, ReadsFrom, Refusal, Reply, Rules, Savepoint, State, StaysRevocable, after, all_more, breaks_in, bytes_of, entered_by, is_begin, is_code, is_open, open_by, opened, refusal, reply, reply_unless, state_more, state_more_in, told_then, whole_then}
 use Rattle.run_rules.proofs.Tries.{alone_more}
+use Rattle.std.proofs.lemmas.List.{drop-map}
 
 -- ## The begins of its blocks
 
 module _ (s : Savepoint) where
-  kept_outer : (points : List Savepoint) → map (λ (q : Savepoint). q.kept) (drop 1 points) ≡ drop 1 (map (λ (q : Savepoint). q.kept) points)
-  kept_outer [] = refl
-  kept_outer (q ∷ points) = refl
-
   pub kept_by : (begins commits : Bool) (abort : Option Bool) (points : List Savepoint) (r : Reply) → map (λ (q : Savepoint). q.kept) (open_by begins commits abort s points r) ≡ open_by begins commits abort s.kept (map (λ (q : Savepoint). q.kept) points) r
   kept_by true commits abort points (Code n) = refl
-  kept_by false true abort points Done = kept_outer points
+  kept_by false true abort points Done = sym (drop-map (λ (q : Savepoint). q.kept) 1 points)
   kept_by false false (Some true) points (Code n) = refl
-  kept_by false false (Some false) points (Code n) = kept_outer points
+  kept_by false false (Some false) points (Code n) = sym (drop-map (λ (q : Savepoint). q.kept) 1 points)
   kept_by begins commits abort points r = refl
 
 -- ## A begin's reply

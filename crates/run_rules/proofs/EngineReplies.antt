@@ -1,5 +1,5 @@
 -- What an engine replies: what its player knows of it, and what a reply tells that leaves no transaction open.
-use Rattle.std.proofs.Common.{◌≡◌, ℕ, ◌<◌, Bool, true, false, List, [], length, replicate, Option, None, Some, sym, ap, subst, inl, inr, refl, true≢false, ◌∙◌}
+use Rattle.std.proofs.Common.{◌≡◌, ℕ, Bool, true, false, List, [], length, replicate, Option, None, Some, sym, ap, subst, inl, inr, refl, true≢false, ◌∙◌}
 use Rattle.run_rules.proofs.Common.{Abort, Agrees, Begin, Call, Code, Commit, Core, Done, Ends, IsMemory, IsSettled, Outside, Props, Refusal, Replied, Replies, Reply, State, after, blocks_after, in_transaction, is_inside, is_open, lt-ltb, none_inside, or_else, recoded, refusal, reply, reply_cases, reply_held, reply_unless, shut_revocable, stands_for, state_in, state_over, unless}
 use Rattle.tx_player.specs.Replies.{MayReply}
 use Rattle.run_rules.proofs.EngineStates.{stands_blocks}
@@ -12,12 +12,13 @@ begin_may props room depth false None = tt
 begin_may props room depth true (Some why) = tt
 begin_may props room depth false (Some why) = tt
 
-commit_done : (deepest : ℕ) (s : State) → 0 < length s.blocks → reply deepest s Commit ≡ Done
-commit_done deepest s some = ap (λ (b : Bool). reply_unless (or_else (unless b Outside) None) Done) (lt-ltb 0 (length s.blocks) some)
+-- an open block's commit is answered so
+pub commit_reply : (deepest : ℕ) (s : State) → is_open s ≡ true → Done ≡ reply deepest s Commit
+commit_reply deepest s o = sym (ap (λ (b : Bool). reply_unless (or_else (unless b Outside) None) Done) o)
 
 machine_may : (deepest : ℕ) (s : State) (call : Call) (again : Bool) → MayReply (length s.blocks) call (recoded call again (reply deepest s call))
 machine_may deepest s (Begin props room) again = begin_may props room (length s.blocks) again (refusal deepest s (Begin props room))
-machine_may deepest s Commit again = λ some. commit_done deepest s some
+machine_may deepest s Commit again = λ some. sym (commit_reply deepest s (lt-ltb 0 (length s.blocks) some))
 machine_may deepest s call again = tt
 
 -- ## Those of an engine

@@ -1,7 +1,6 @@
 -- Where the innermost block of an open attempt goes back to its begin, the attempt, cut to that begin with its record, is what the engine stands for then, and its player is where its calls lead.
 use Rattle.std.proofs.Common.{◌≡◌, ℕ, ◌/◌, ◌<◌, ◌≤◌, false, List, [], ◌∷◌, ◌++◌, length, map, take, drop, reverse, refl, sym, ap, ◌∙◌, subst, arith, length-append, slice_get, Some}
-use Rattle.run_rules.proofs.Common.{Again, Agrees, AreAlone, AreRead, AtEach, Attempt, Begin, Between, CallRecord, Code, Core, Frame, HasBegun, HasBlocks, IsInnerBegin, IsMemory, IsOpenTry, Ran, Rules, Savepoint, State, StaysRevocable, again_cut, again_of, alone_start, as_undo, at_each_before, at_each_both, back, before_no_more, begun_again, bounds_of, breaks_in, breaks_of, bytes_of, cut_to, due_at, earlier, entered_by, kept_of, length-drop, length-restored, length-take, nothing_same, opened, pushed, renewed, restored, stands_for, state_again, take-append-le, take-take, told_alone, told_state, told_then, undone_both, whole_then, with_again}
-use Rattle.norec_core.specs.Phases.{Phase}
+use Rattle.run_rules.proofs.Common.{Again, Agrees, AreAlone, AreRead, AtEach, Attempt, Begin, Between, CallRecord, Code, Core, Frame, HasBegun, HasBlocks, IsInnerBegin, IsMemory, IsOpenTry, Phase, Ran, Rules, Savepoint, State, StaysRevocable, again_cut, again_of, alone_start, as_undo, at_each_before, at_each_both, back, before_no_more, begun_again, bounds_of, breaks_in, breaks_of, bytes_of, cut_to, due_at, earlier, entered_by, kept_of, length-drop, length-restored, length-take, nothing_same, opened, pushed, renewed, restored, stands_for, state_again, take-append-le, take-take, told_alone, told_state, told_then, undone_both, whole_then, with_again}
 use Rattle.tx_attempts.proofs.KeptRecords.{before_short}
 use Rattle.run_rules.proofs.BlocksAgain.{accepted, before_all, begun_cut, entered_so, goes_back, last_alone, taken}
 use Rattle.run_rules.proofs.BlocksStill.{begun_logged, each_still}

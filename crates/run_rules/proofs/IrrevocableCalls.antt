@@ -1,9 +1,7 @@
 -- Calls that make a transaction irrevocable, and what a reply leaves of the room of one that is.
 use Rattle.std.proofs.Common.{true≢false, is_some, subst, ◌≡◌, ℕ, ◌+◌, ◌-◌, ◌<◌, ◌≤◌, ◌&&◌, not, nat_lt, Bool, true, false, List, replicate, if◌then◌else◌, length, Option, None, Some, IsSome, refl, sym, ap, ◌∙◌, inl, inr, arith}
-use Rattle.run_rules.proofs.Common.{Abort, Agrees, Begin, Call, Code, CommitAction, Conflict, ConflictsIn, Core, Done, Ends, IsIrrevocable, IsMemory, IsSettled, MayStarveHeld, Mode, NoAbort, Outside, Props, Refusal, Refused, Replied, Replies, RepliesHeld, Reply, State, UndoAction, accepted as begin_served, actions_after, after, after_unless, cond-true, effect, entered, false_from_ne_true, in_transaction, irrevocable_from, irrevocable_room, is_abort, is_open, keeps_any, keeps_innermost, ltb-true, made_irrevocable, may_go, mode_enters, opened, or_else, outside, pushed, refusal, registered, registers, reply_cases, reply_unless, room_left, stands_for, state_in, state_over, stays_revocable, total, unless}
-use Rattle.norec_core.specs.declared.answer.Answer.{Answer}
+use Rattle.run_rules.proofs.Common.{Abort, Agrees, Answer, Begin, Call, Code, CommitAction, Conflict, ConflictsIn, Core, Done, Ends, IsIrrevocable, IsMemory, IsSettled, MayStarveHeld, Mode, NoAbort, Outside, Props, Refusal, Refused, Replied, Replies, RepliesHeld, Reply, State, UndoAction, accepted as begin_served, actions_after, after, after_unless, cond-true, effect, entered, false_from_ne_true, in_transaction, irrevocable_from, irrevocable_room, is_abort, is_open, keeps_any, keeps_innermost, ltb-true, made_irrevocable, may_go, mode_enters, not-true, opened, or_else, outside, pushed, refusal, registered, registers, reply_cases, reply_unless, room_left, stands_for, state_in, state_over, stays_revocable, total, unless}
 use Rattle.itm_types.specs.declared.call.ActionKind.TheVariants as kinds
-use Rattle.run_rules.proofs.ClockCalls.{no_true}
 
 -- ## A call that makes it so
 
@@ -38,10 +36,10 @@ begun_irrevocable s props room goes = elim (is_open s) as (λ (b : Bool). (if b 
     so t = ap (λ (x : State). x.irrevocable) (cond-true props.goes_irrevocable (irrevocable_from (pushed t props)) (pushed t props) goes) ∙ from_irrevocable (pushed t props)
 
 module _ (mid : Core) (m : List ℕ) where
-  makes_irrevocable : (call : Call) → is_some (irrevocable_room mid call) ≡ true → (after mid.depth (state_over mid.writes mid.blocks mid.arena mid.actions m) call).irrevocable ≡ true
+  pub makes_irrevocable : (call : Call) → is_some (irrevocable_room mid call) ≡ true → (after mid.depth (state_over mid.writes mid.blocks mid.arena mid.actions m) call).irrevocable ≡ true
   makes_irrevocable (Mode room) w =
       let two = goes_with true (in_transaction mid) (not (stays_revocable mid.blocks)) (not mid.irrevocable) room w in
-      ap (λ (s : State). s.irrevocable) (sym (mode_enters mid.depth mid.writes mid.blocks mid.arena mid.actions m room two.1 (no_true (stays_revocable mid.blocks) two.2)).0)
+      ap (λ (s : State). s.irrevocable) (sym (mode_enters mid.depth mid.writes mid.blocks mid.arena mid.actions m room two.1 (not-true (stays_revocable mid.blocks) two.2)).0)
   makes_irrevocable (Begin props room) w =
       let may = goes_with props.goes_irrevocable (may_go mid.blocks props) (nat_lt (length mid.blocks) mid.depth) (not mid.irrevocable) room w in
       let s : State = state_over mid.writes mid.blocks mid.arena mid.actions m in

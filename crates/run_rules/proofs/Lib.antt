@@ -3,7 +3,6 @@ pub mod EngineStates
 pub mod EngineDepths
 pub mod ClockCalls
 pub mod Tries
-pub mod PlainCalls
 pub mod Players
 pub mod OpenBegins
 pub mod OpenCalls
@@ -29,3 +28,9 @@ pub mod RestartLists
 pub mod Ranks
 pub mod OpenCounts
 pub mod RestartedLengths
+pub mod CallRooms
+pub mod EngineAnswers
+pub mod HeldRooms
+pub mod PlayerLaws
+pub mod RestartedEngines
+pub mod UsedRooms

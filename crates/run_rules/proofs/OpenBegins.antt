@@ -1,8 +1,7 @@
 -- A player and the begins of its open inner blocks, by its calls: where it goes back to is where the calls up to a begin lead.
 use Rattle.std.proofs.Common.{◌≡◌, ℕ, suc, ◌+◌, ◌<◌, ◌≤◌, Bool, true, false, List, [], ◌∷◌, ◌++◌, length, take, Option, Some, refl, sym, ap, ◌∙◌, arith, length-append, if◌then◌else◌, nat_lt, drop}
 use Rattle.run_rules.proofs.Common.{Call, CallRecord, Code, Done, HasBlocks, IsAt, Knows, Obeys, Reply, Rules, abort_of, depth_after, depth_by, is_begin, is_code, is_commit, le-ltb, length-take, lt-ltb, open_after, open_by, player_snoc, player_then, take-append-le, take-take}
-use Rattle.run_rules.proofs.BlocksAgain.{taken}
-use Rattle.run_rules.proofs.Players.{is_opened}
+use Rattle.run_rules.{proofs.BlocksAgain.taken, proofs.Players.is_opened}
 
 module _ {P : Type 0} (rules : Rules P) (first : P) where
   -- it is so just after the begin of the outermost block was accepted
@@ -15,21 +14,25 @@ module _ {P : Type 0} (rules : Rules P) (first : P) where
   knows_more made few many p [] l k = tt
   knows_more made few many p (n ∷ rest) l k = ((let within = k.0 in omega arith), k.1, k.2)
 
+  -- of a player that goes back where another does, with calls that begin alike, it knows the same
+  knows_as : (made made' : List CallRecord) (p q : P) (d few : ℕ) → ((e : ℕ) → 0 < e → e ≤ d → rules.at_block q e ≡ rules.at_block p e) → ((n : ℕ) → n ≤ few → take n made' ≡ take n made)
+      → (most : ℕ) (begins : List ℕ) → most ≤ few → suc (length begins) ≤ d → Knows rules first made most p begins → Knows rules first made' most q begins
+  knows_as made made' p q d few back alike most [] l u k = tt
+  knows_as made made' p q d few back alike most (n ∷ rest) l u k =
+      let all : n ≤ few = omega (arith, k.0, l) in (
+        k.0,
+        back (suc (suc (length rest))) (omega arith) (omega arith) ∙ (k.1 ∙ ap (player_then rules.answered first) (sym (alike n all))),
+        knows_as made made' p q d few back alike n rest all (omega arith) k.2,
+      )
+
   -- ## One call more
 
   module _ (made : List CallRecord) (x : CallRecord) (p q : P) (now : ℕ) (here : q ≡ player_then rules.answered first (made ++ x ∷ []))
       (law : (d : ℕ) → 0 < d → d ≤ now → rules.at_block q d ≡ (if nat_lt (rules.depth p) d then rules.answered p (Code 5) else rules.at_block p d)) where
     still : (most : ℕ) (begins : List ℕ) → most ≤ length made → suc (length begins) ≤ rules.depth p → suc (length begins) ≤ now → Knows rules first made most p begins → Knows rules first (made ++ x ∷ []) most q begins
-    still most [] few l u k = tt
-    still most (n ∷ rest) few l u k =
-        let within = k.0 in
-        let all : n ≤ length made = omega arith in (
-          k.0,
-          law (suc (suc (length rest))) (omega arith) (omega arith)
-              ∙ (ap (λ (b : Bool). if b then rules.answered p (Code 5) else rules.at_block p (suc (suc (length rest)))) (le-ltb (rules.depth p) (suc (suc (length rest))) (omega arith))
-              ∙ (k.1 ∙ ap (player_then rules.answered first) (sym (take-append-le n made (x ∷ []) all)))),
-          still n rest all (omega arith) (omega arith) k.2,
-        )
+    still most begins few l u k = knows_as made (made ++ x ∷ []) p q (suc (length begins)) (length made)
+        (λ e some far. law e some (omega (arith, far, u)) ∙ ap (λ (b : Bool). if b then rules.answered p (Code 5) else rules.at_block p e) (le-ltb (rules.depth p) e (omega (arith, far, l))))
+        (λ n within. take-append-le n made (x ∷ []) within) most begins few (omega arith) k
 
     opened : (begins : List ℕ) → rules.depth p ≡ suc (length begins) → now ≡ suc (suc (length begins)) → q ≡ rules.answered p (Code 5) → Knows rules first made (length made) p begins
         → Knows rules first (made ++ x ∷ []) (length (made ++ x ∷ [])) q (suc (length made) ∷ begins)
@@ -71,18 +74,6 @@ module _ {P : Type 0} (rules : Rules P) (first : P) where
 
   -- ## Back to a begin
 
-  -- what is known of the begins up to one stays
-  cut : (made : List CallRecord) (k : ℕ) (p q : P) (d : ℕ) → ((e : ℕ) → 0 < e → e ≤ d → rules.at_block q e ≡ rules.at_block p e) → (most : ℕ) (begins : List ℕ) → most ≤ k → suc (length begins) ≤ d
-      → Knows rules first made most p begins → Knows rules first (take k made) most q begins
-  cut made k p q d around most [] few l h = tt
-  cut made k p q d around most (n ∷ rest) few l h =
-      let within = h.0 in
-      let all : n ≤ k = omega arith in (
-        h.0,
-        around (suc (suc (length rest))) (omega arith) (omega arith) ∙ (h.1 ∙ ap (player_then rules.answered first) (sym (take-take n k made all))),
-        cut made k p q d around n rest all (omega arith) h.2,
-      )
-
   -- where the innermost block goes back to its begin, the player is where the calls up to it lead, and it knows what it knew there
   pub goes_back : (made : List CallRecord) (p : P) (k : ℕ) (rest : List ℕ) → HasBlocks rules p → IsAt rules first made p (k ∷ rest) → IsAt rules first (take k made) (rules.at_block p (rules.depth p)) (k ∷ rest)
   goes_back made p k rest has at =
@@ -97,6 +88,6 @@ module _ {P : Type 0} (rules : Rules P) (first : P) where
         knows = (
           omega arith,
           b.around (suc (suc (length rest))) (omega arith) (omega arith) ∙ (at.knows.1 ∙ ap (player_then rules.answered first) (sym (take-take k k made (omega arith)))),
-          cut made k p q (rules.depth p) b.around k rest (omega arith) (omega arith) at.knows.2,
+          knows_as made (take k made) p q (rules.depth p) k b.around (λ n within. take-take n k made within) k rest (omega arith) (omega arith) at.knows.2,
         );
       }

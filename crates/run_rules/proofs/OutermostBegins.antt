@@ -1,6 +1,6 @@
 -- A begin that comes to an engine outside a transaction, and other calls there.
-use Rattle.std.proofs.Common.{◌≡◌, ℕ, ◌<◌, not, nat_lt, Bool, true, false, true≢false, List, [], length, Option, None, Some, IsSome, is_some, refl, sym, ap, ◌∙◌}
-use Rattle.run_rules.proofs.Common.{Actions, Agrees, Begin, Call, Code, Core, IsBegin, IsMemory, Load, NoIrrevocable, Props, Refusal, Replies, Reply, Row, Save, State, TooDeep, accepted, after, answer, begin_code, blocks_after, in_arena, in_transaction, irrevocable_room, is_begin, is_inside, may_go, no_actions, none_inside, or_else, outside, recoded, refusal, reply, reply_unless, size_of, stands_for, state_in, state_over, stays_outside, unless}
+use Rattle.std.proofs.Common.{◌≡◌, ℕ, ◌<◌, not, nat_lt, Bool, true, false, true≢false, List, [], length, Option, None, Some, IsSome, is_some, refl, sym, ap, ◌∙◌, inl, inr, subst}
+use Rattle.run_rules.proofs.Common.{Actions, Agrees, Begin, Call, Code, Core, Ends, IsBegin, IsMemory, IsSettled, Load, NoIrrevocable, Props, Refusal, Replied, Replies, Reply, Row, Save, State, TooDeep, accepted, after, answer, begin_code, blocks_after, in_arena, in_transaction, inside_all, irrevocable_room, is_begin, is_inside, may_go, no_actions, none_inside, or_else, outside, recoded, refusal, reply, reply_cases, reply_unless, size_of, stands_for, state_in, state_over, stays_outside, unless}
 use Rattle.tx_runs.proofs.Begins.{opened_arena, same_arena}
 use Rattle.run_rules.proofs.IrrevocableCalls.{goes_with}
 
@@ -25,16 +25,22 @@ begin_served mid props room r false None o i e = (refl, e)
 begin_served mid props room r true (Some x) o i e = absurd (true≢false (sym i ∙ (ap (λ (y : Reply). is_inside (blocks_after mid (Begin props room) y)) e ∙ o)))
 begin_served mid props room r false (Some x) o i e = absurd (true≢false (sym i ∙ (ap (λ (y : Reply). is_inside (blocks_after mid (Begin props room) y)) e ∙ o)))
 
--- nor is it refused then
-served_may : (may few : Bool) → or_else (or_else (unless may NoIrrevocable) (unless few TooDeep)) None ≡ None → may ≡ true
+-- so an accepted one is not refused, and its code says whether it was begun before
+pub begin_entered : (mid new : Core) (props : Props) (room : ℕ) (r : Reply) → mid.doing ≡ Some (Begin props room) → IsSettled new → Ends mid (Replied r) new → in_transaction mid ≡ false → mid.irrevocable ≡ false → in_transaction new ≡ true
+    → (refusal mid.depth (outside [] mid.arena) (Begin props room) ≡ None) × (r ≡ begin_code mid.again)
+begin_entered mid new props room r doing settled g shut revocable now = elim (reply_cases mid new (Begin props room) r doing g) [
+  | inl w ↦ (let m = settled.agreed in served m.0 (sym (ap is_inside w.blocks) ∙ now) (w.reply_is m.0 (subst (λ (n : ℕ). IsMemory n m.0) (ap (λ (c : Core). c.words) w.stays) m.1) m.2))
+  | inr (inl w) ↦ served [] (sym (inside_all (blocks_after mid (Begin props room) r)) ∙ (sym (ap (λ (c : Core). is_inside c.blocks) w.stays) ∙ now)) (w.reply_is [])
+  | inr (inr w) ↦ absurd (true≢false (sym w.irrevocable ∙ revocable))
+]
+  where
+    served : (m : List ℕ) → is_inside (blocks_after mid (Begin props room) r) ≡ true → r ≡ recoded (Begin props room) mid.again (reply mid.depth (stands_for mid m) (Begin props room)) → (refusal mid.depth (outside [] mid.arena) (Begin props room) ≡ None) × (r ≡ begin_code mid.again)
+    served m opens e = begin_served mid props room r mid.again (refusal mid.depth (outside_of mid m) (Begin props room)) shut opens (e ∙ ap (λ (s : State). recoded (Begin props room) mid.again (reply mid.depth s (Begin props room))) (stands_outside mid shut revocable m))
+
+-- nor may it not go
+pub served_may : (may few : Bool) → or_else (or_else (unless may NoIrrevocable) (unless few TooDeep)) None ≡ None → may ≡ true
 served_may true few e = refl
 served_may false few e = absurd (cc)
-
-pub begin_may : (mid : Core) (props : Props) (room : ℕ) (r : Reply) (m : List ℕ) → in_transaction mid ≡ false → mid.irrevocable ≡ false → is_inside (blocks_after mid (Begin props room) r) ≡ true
-    → r ≡ recoded (Begin props room) mid.again (reply mid.depth (stands_for mid m) (Begin props room)) → may_go [] props ≡ true
-begin_may mid props room r m outside revocable opens e =
-    served_may (may_go [] props) (nat_lt 0 mid.depth) (begin_served mid props room r mid.again (refusal mid.depth (outside_of mid m) (Begin props room)) outside opens
-    (e ∙ ap (λ (s : State). recoded (Begin props room) mid.again (reply mid.depth s (Begin props room))) (stands_outside mid outside revocable m))).0
 
 -- the plain machine refuses it only where it may not go irrevocable, so else the engine's reply to one opens
 pub begin_opens : (mid new : Core) (m : List ℕ) (props : Props) (room : ℕ) (told : Reply) → Replies mid (Begin props room) told new → 0 < mid.depth → in_transaction mid ≡ false → may_go mid.blocks props ≡ true → IsMemory mid.words m → Agrees m new.log → in_transaction new ≡ true

@@ -1,6 +1,6 @@
 -- What a player is after a reply.
 use Rattle.std.proofs.Common.{◌&&◌, ◌≡◌, ◌==◌, ℕ, suc, ◌+◌, ◌*◌, ◌<◌, ◌≤◌, Bool, true, false, Option, Some, refl, ap, subst, ◌∙◌, sym, arith, if◌then◌else◌, nat_lt}
-use Rattle.run_rules.proofs.Common.{Abort, Begin, Call, Code, Commit, Done, HasBlocks, IsBlock, IsDeep, IsNested, Obeys, Reply as Replied, Rules, abort_of, depth_after, depth_by, is_begin, is_code, is_commit, le-ltb, ltb-false, ltb-true, mul-le-mul_right, ne_eqb, opens, whole}
+use Rattle.run_rules.proofs.Common.{Call, Code, Done, HasBlocks, IsBlock, IsDeep, IsNested, Obeys, Reply as Replied, Rules, abort_of, depth_after, depth_by, is_begin, is_code, is_commit, le-ltb, ltb-false, ltb-true, mul-le-mul_right, ne_eqb, opens, whole}
 
 -- ## Numbers
 
@@ -10,34 +10,31 @@ rank_less x x' k c c' less within = let up : x' + 1 ≤ x = omega arith in let m
 pub rank_same : (x x' k c c' : ℕ) → x' ≤ x → c' < c → x' * (k + 1) + c' < x * (k + 1) + c
 rank_same x x' k c c' below less = let m : x' * (k + 1) ≤ x * (k + 1) = mul-le-mul_right (k + 1) below in omega arith
 
-pub block_same : (w w' r t : ℕ) → w' ≤ w → w' * (r + 1) + t ≤ w * (r + 1) + t
-block_same w w' r t below = let m : w' * (r + 1) ≤ w * (r + 1) = mul-le-mul_right (r + 1) below in omega arith
+pub rank_most : (x x' k c c' : ℕ) → x' ≤ x → c' ≤ c → x' * (k + 1) + c' ≤ x * (k + 1) + c
+rank_most x x' k c c' below few = let m : x' * (k + 1) ≤ x * (k + 1) = mul-le-mul_right (k + 1) below in omega arith
 
 -- ## The depth
-
--- the accepted begin of an outermost block
-pub opens_at_begin : (c : Call) (r : Replied) → 0 < depth_after 0 c r → opens 0 c r ≡ true
-opens_at_begin (Begin props room) (Code n) l = refl
-opens_at_begin Commit (Code n) l = absurd (omega arith)
-opens_at_begin (Abort true) (Code n) l = absurd (omega arith)
-opens_at_begin (Abort false) (Code n) l = absurd (omega arith)
-opens_at_begin c r l = absurd (omega arith)
 
 -- a reply after which more blocks are open is that to a begin, which was accepted
 pub record IsOpened (depth : ℕ) (c : Call) (r : Replied) : Type 0 where
   pub now : depth_after depth c r ≡ suc depth
   pub entered : depth_after depth c (Code 5) ≡ suc depth
+  pub begins : is_begin c ≡ true
   pub code : is_code r ≡ true
 
-opened_by : (begins commits : Bool) (abort : Option Bool) (depth : ℕ) (r : Replied) → depth < depth_by begins commits abort depth r → (depth_by begins commits abort depth r ≡ suc depth) × (depth_by begins commits abort depth (Code 5) ≡ suc depth) × (is_code r ≡ true)
-opened_by true commits abort depth (Code n) l = (refl, refl, refl)
+opened_by : (begins commits : Bool) (abort : Option Bool) (depth : ℕ) (r : Replied) → depth < depth_by begins commits abort depth r → (depth_by begins commits abort depth r ≡ suc depth) × (depth_by begins commits abort depth (Code 5) ≡ suc depth) × (begins ≡ true) × (is_code r ≡ true)
+opened_by true commits abort depth (Code n) l = (refl, refl, refl, refl)
 opened_by false true abort depth Done l = absurd (omega arith)
 opened_by false false (Some true) depth (Code n) l = absurd (omega arith)
 opened_by false false (Some false) depth (Code n) l = absurd (omega arith)
 opened_by begins commits abort depth r l = absurd (omega arith)
 
 pub is_opened : (depth : ℕ) (c : Call) (r : Replied) → depth < depth_after depth c r → IsOpened depth c r
-is_opened depth c r l = (let f = opened_by (is_begin c) (is_commit c) (abort_of c) depth r l in record { now = f.0; entered = f.1; code = f.2 })
+is_opened depth c r l = (let f = opened_by (is_begin c) (is_commit c) (abort_of c) depth r l in record { now = f.0; entered = f.1; begins = f.2; code = f.3 })
+
+-- the accepted begin of an outermost block
+pub opens_at_begin : (c : Call) (r : Replied) → 0 < depth_after 0 c r → opens 0 c r ≡ true
+opens_at_begin c r l = (let f = is_opened 0 c r l in (λ i. f.begins i && f.code i))
 
 module _ {P : Type 0} (rules : Rules P) where
   pub nested_outside : (p : P) → rules.depth p ≡ 0 → IsNested rules false p
@@ -48,21 +45,18 @@ module _ {P : Type 0} (rules : Rules P) where
   nested_again p n =
       let b = n.blocks (rules.depth p) n.deep (omega arith) in
       let q : P = rules.at_block p (rules.depth p) in
-      let there = b.depth in
       let same : rules.calls_left (rules.restarted q) ≡ rules.calls_left (rules.restarted p) = ap rules.calls_left b.same in
-      let less = b.less in
       record {
-        deep = (let d = n.deep in omega arith);
+        deep = omega (arith, b.depth, n.deep);
         begun = λ o. ap rules.depth b.same ∙ n.begun o;
-        less = λ o. omega arith;
-        blocks = λ d some within. (let few : d ≤ rules.depth p = omega arith in
+        less = λ o. omega (arith, same, b.less);
+        blocks = λ d some within. (let few : d ≤ rules.depth p = omega (arith, within, b.depth) in
             let k = n.blocks d some few in
-            let less = k.less in
             subst (IsBlock rules d q) (sym (b.around d some few))
             (record {
               depth = k.depth;
               same = k.same ∙ sym b.same;
-              less = omega arith;
+              less = omega (arith, k.less, same);
               around = λ e u v. k.around e u v ∙ sym (b.around e u (omega arith));
             }));
       }
@@ -103,13 +97,11 @@ module _ {P : Type 0} (rules : Rules P) (laws : Obeys rules) where
             let far = ltb-false (rules.depth p) d e in
             let there = has d some far in
             let back : rules.restarted q ≡ rules.restarted p = goes_back (omega (arith, some, far)) open_now in
-            let same = ap rules.calls_left back in
-            let less = there.less in
             subst (IsBlock rules d q) (sym (laws.begins p c r asks d some few ∙ ap (λ (b : Bool). if b then rules.answered p (Code 5) else rules.at_block p d) e))
             (record {
               depth = there.depth;
               same = there.same ∙ sym back;
-              less = omega (arith, less, same);
+              less = omega (arith, there.less, ap rules.calls_left back);
               around = λ k v w. there.around k v w ∙ sym (laws.begins p c r asks k v (omega (arith, w, few)) ∙ ap (λ (b : Bool). if b then rules.answered p (Code 5) else rules.at_block p k) (le-ltb (rules.depth p) k (omega (arith, w, far))));
             })
         by_depth true e =
@@ -129,40 +121,27 @@ module _ {P : Type 0} (rules : Rules P) (laws : Obeys rules) where
               around = λ k v w. laws.begins p c (Code 5) asks k v (omega (arith, w, few, now, entered)) ∙ sym (laws.begins p c r asks k v (omega (arith, w, few)));
             })
 
+    -- where it goes back to once a block is open, which is where it did or this begin
+    open_again : (was : Bool) → IsNested rules was p → 0 < depth_after (rules.depth p) c r → (rules.calls_left (rules.restarted (rules.answered p r)) ≡ whole rules was p) × (rules.depth (rules.restarted (rules.answered p r)) ≡ 0)
+    open_again true n deep = (let back = goes_back n.deep deep in (ap rules.calls_left back, ap rules.depth back ∙ n.begun refl))
+    open_again false n deep = (let back = begins_here n.deep deep in (ap rules.calls_left back, ap rules.depth back ∙ n.deep))
+
+    -- no more calls are left than where the block that is under way was begun, or is
+    whole_most : (was : Bool) → IsNested rules was p → rules.calls_left p ≤ whole rules was p
+    whole_most true n = omega (arith, n.less refl)
+    whole_most false n = omega arith
+
     pub plays : (was now : Bool) → IsNested rules was p → IsDeep now (depth_after (rules.depth p) c r) → Played was now p (rules.answered p r)
-    -- it stays open
-    plays true true n deep =
-        let back : rules.restarted (rules.answered p r) ≡ rules.restarted p = goes_back n.deep deep in
-        let fewer = laws.nearer p c r asks in
-        let room = n.less refl in
-        let same : rules.calls_left (rules.restarted (rules.answered p r)) ≡ rules.calls_left (rules.restarted p) = ap rules.calls_left back in
+    plays was true n deep =
+        let again = open_again was n deep in
+        let most = whole_most was n in
         record {
-          nested = record { deep = subst (IsDeep true) (sym (laws.nests p c r asks)) deep; begun = λ o. ap rules.depth back ∙ n.begun refl; less = λ o. omega arith; blocks = blocks_kept n.blocks (omega arith) };
-          whole_falls = omega arith;
-          less = fewer;
+          nested = record { deep = subst (IsDeep true) (sym (laws.nests p c r asks)) deep; begun = λ o. again.1; less = λ o. omega (arith, again.0, most, laws.nearer p c r asks); blocks = blocks_kept n.blocks (omega (arith, again.0, most)) };
+          whole_falls = omega (arith, again.0);
+          less = laws.nearer p c r asks;
         }
-    -- it is over
-    plays true false n deep =
-        let fewer = laws.nearer p c r asks in
-        let room = n.less refl in
-        record {
-          nested = nested_outside rules (rules.answered p r) (laws.nests p c r asks ∙ deep);
-          whole_falls = omega arith;
-          less = fewer;
-        }
-    -- a block opened
-    plays false true n deep =
-        let back : rules.restarted (rules.answered p r) ≡ p = begins_here n.deep deep in
-        let fewer = laws.nearer p c r asks in
-        let same : rules.calls_left (rules.restarted (rules.answered p r)) ≡ rules.calls_left p = ap rules.calls_left back in
-        record {
-          nested = record { deep = subst (IsDeep true) (sym (laws.nests p c r asks)) deep; begun = λ o. ap rules.depth back ∙ n.deep; less = λ o. omega arith; blocks = blocks_kept n.blocks (omega arith) };
-          whole_falls = omega arith;
-          less = fewer;
-        }
-    -- none is open
-    plays false false n deep = record {
+    plays was false n deep = record {
       nested = nested_outside rules (rules.answered p r) (laws.nests p c r asks ∙ deep);
-      whole_falls = omega (arith, laws.nearer p c r asks);
+      whole_falls = omega (arith, whole_most was n, laws.nearer p c r asks);
       less = laws.nearer p c r asks;
     }

@@ -1,17 +1,7 @@
 -- How much a player has left to do falls with each call.
-use Rattle.std.proofs.Common.{◌≡◌, ℕ, ◌+◌, ◌-◌, ◌*◌, ◌<◌, ◌≤◌, Bool, true, false, if◌then◌else◌, refl, ap, arith}
-use Rattle.run_rules.proofs.Common.{Falls, IsNested, Obeys, Rules, mul-le-mul_right}
-use Rattle.run_rules.proofs.Players.{Played, block_same, rank_less, rank_same}
-
--- tries and restarts that are left, as one number
-abbrev tries_in : ℕ → ℕ → ℕ → ℕ
-tries_in restarts tries left = tries * (restarts + 1) + left
-
-tries_same : (restarts tries tries' left left' : ℕ) → tries' ≤ tries → left' ≤ left → tries_in restarts tries' left' ≤ tries_in restarts tries left
-tries_same restarts tries tries' left left' few less = (let m : tries' * (restarts + 1) ≤ tries * (restarts + 1) = mul-le-mul_right (restarts + 1) few in omega arith)
-
-tries_fewer : (restarts tries tries' left left' : ℕ) → tries' ≤ tries → left' < left → tries_in restarts tries' left' < tries_in restarts tries left
-tries_fewer restarts tries tries' left left' few less = (let m : tries' * (restarts + 1) ≤ tries * (restarts + 1) = mul-le-mul_right (restarts + 1) few in omega arith)
+use Rattle.std.proofs.Common.{◌≡◌, ℕ, ◌+◌, ◌-◌, ◌<◌, ◌≤◌, Bool, true, false, if◌then◌else◌, refl, ap, arith}
+use Rattle.run_rules.proofs.Common.{Falls, IsNested, Obeys, Rules}
+use Rattle.run_rules.proofs.Players.{Played, rank_less, rank_most, rank_same}
 
 module _ {P : Type 0} (rules : Rules P) (retries restarts : ℕ) where
   module _ (laws : Obeys rules) where
@@ -19,7 +9,7 @@ module _ {P : Type 0} (rules : Rules P) (retries restarts : ℕ) where
     pub falls_reply : {was now : Bool} {p q : P} (nth left left' : ℕ) → left' ≤ left → Played rules laws was now p q → Falls rules retries restarts was now nth nth left left' p q
     falls_reply nth left left' few played = record {
       whole_falls = played.whole_falls;
-      rank_falls = λ k within. rank_same _ _ k _ _ (tries_same restarts _ _ left left' (block_same _ _ retries (retries + 1 - nth) played.whole_falls) few) played.less;
+      rank_falls = λ k within. rank_same _ _ k _ _ (rank_most _ _ restarts left left' (rank_most _ _ retries (retries + 1 - nth) (retries + 1 - nth) played.whole_falls (omega arith)) few) played.less;
     }
 
     -- the block is done
@@ -41,8 +31,7 @@ module _ {P : Type 0} (rules : Rules P) (retries restarts : ℕ) where
   falls_back nth left left' p nested fewer =
       let b = nested.blocks (rules.depth p) nested.deep (omega arith) in
       let same : rules.calls_left (rules.restarted (rules.at_block p (rules.depth p))) ≡ rules.calls_left (rules.restarted p) = ap rules.calls_left b.same in
-      let less = b.less in
       record {
-        whole_falls = omega arith;
-        rank_falls = λ k within. rank_less _ _ k _ _ (tries_fewer restarts _ _ left left' (block_same _ _ retries (retries + 1 - nth) (omega arith)) fewer) (omega arith);
+        whole_falls = omega (arith, same, b.less);
+        rank_falls = λ k within. rank_less _ _ k _ _ (rank_same _ _ restarts left left' (rank_most _ _ retries (retries + 1 - nth) (retries + 1 - nth) (omega (arith, same, b.less)) (omega arith)) fewer) (omega (arith, same, b.less));
       }

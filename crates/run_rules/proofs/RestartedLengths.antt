@@ -1,15 +1,12 @@
 -- What a block that goes back to its begin leaves: the arena its length, and as many blocks open.
-use Rattle.std.proofs.Common.{◌≡◌, Bool, true, false, if◌then◌else◌, List, [], ◌∷◌, length, Option, None, Some, refl, ◌∙◌}
-use Rattle.run_rules.proofs.Common.{Block, Frame, Props, Saved, State, back, back_from, begun_again, entered, irrevocable_from, length-restored, made_irrevocable, pushed, rolled_back}
-use Rattle.nest_frames.specs.Nest.{renewed}
+use Rattle.std.proofs.Common.{◌≡◌, List, [], ◌∷◌, length, Option, None, Some, refl, ◌∙◌}
+use Rattle.run_rules.proofs.Common.{Block, Frame, Props, Saved, State, back, back_from, begun_again, blocks_renewed as renewed, entered, length-restored, rolled_back}
+use Rattle.itm_model.proofs.KeptEffects.{entered_kept}
 
 -- ## The arena
 
 entered_long : (s : State) (props : Props) → length (entered s props).arena ≡ length s.arena
-entered_long s props = elim props.goes_irrevocable as (λ (b : Bool). length (if b then irrevocable_from (pushed s props) else pushed s props).arena ≡ length s.arena) [
-  | true ↦ elim s.irrevocable as (λ (b : Bool). length (if b then pushed s props else made_irrevocable (pushed s props)).arena ≡ length s.arena) [ true ↦ refl | false ↦ refl ]
-  | false ↦ refl
-]
+entered_long s props = entered_kept (λ (t : State). length t.arena ≡ length s.arena) s props refl refl
 
 back_long : (s : State) (blocks : List Block) → length (back_from s blocks).arena ≡ length s.arena
 back_long s [] = refl

@@ -1,10 +1,7 @@
 -- Calls by what they ask of an engine: a step, a place for an action, or memory.
 use Rattle.std.proofs.Common.{◌≡◌, ◌&&◌, not, if◌then◌else◌, unwrap_or, ℕ, ◌+◌, ◌<◌, ◌≤◌, Bool, true, false, true≢false, [], length, is_some, None, Some, refl, sym, ap, subst, ◌∙◌, arith}
-use Rattle.run_rules.proofs.Common.{Abort, Begin, Call, CommitAction, Copy, Core, Fill, IsSettled, Log, LogBytes, MayStarve, MayStarveIn, MayStarveOpen, Mode, Proceeds, Read, Step, UndoAction, Write, in_transaction, irrevocable_room, is_abort, is_begin, is_inside, none_inside, registered_by, registers, shut_revocable, stays_revocable}
+use Rattle.run_rules.proofs.Common.{Abort, Asks, Begin, Call, CommitAction, Copy, Core, Fill, IsSettled, Log, LogBytes, MayStarve, MayStarveIn, MayStarveOpen, Mode, Next, Proceeds, Read, Step, UndoAction, Write, asked, asked_from, in_transaction, irrevocable_room, is_abort, is_begin, is_inside, none_inside, registered_by, registers, shut_revocable, stage_at, stays_revocable}
 use Rattle.norec_core.specs.Copies.{copy_refusal}
-use Rattle.norec_core.specs.Order.{asked, asked_from, stage_at}
-use Rattle.norec_core.specs.declared.answer.Next.{Next}
-use Rattle.norec_core.specs.declared.answer.Next.TheVariants.{Step as Asks}
 
 -- ## A place for an action
 

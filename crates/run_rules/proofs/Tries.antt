@@ -1,9 +1,7 @@
 -- A try of a block: its calls go on alone, and it is over, or is to be told as it stands.
 use Rattle.std.proofs.Common.{◌≡◌, ℕ, ◌+◌, ◌<◌, ◌≤◌, Bool, true, false, if◌then◌else◌, List, [], ◌∷◌, ◌++◌, length, map, None, Some, refl, sym, ap, subst, ◌∙◌, arith, append-nil, append_assoc}
-use Rattle.run_rules.proofs.Common.{AreRestarts, Attempt, Begin, Beginning, Between, Breaks, Call, CallRecord, EndsAs, IsAlone, IsOfBlock, IsTryAt, LacksClock, Obeys, Outcome, Props, Ran, Reply, Rules, State, after, after_try, again_more, all_more, alone_snoc, answers_through, begin_code, begins_alone, breaks_after, breaks_of, follows, gets_none, gets_through, is_begin, is_done, is_open, map-append, opened, player_snoc, player_then, ran_of, reply, state_more, state_then, takes_clock, turn}
-use Rattle.tx_attempts.specs.Attempts.{ClosedBy, alone, pair_of}
-use Rattle.tx_attempts.specs.Kept.{grown}
-use Rattle.tx_attempts.specs.Outrun.{IsDisturbed}
+use Rattle.run_rules.proofs.Common.{AreRestarts, Attempt, Begin, Beginning, Between, Breaks, Call, CallRecord, EndsAs, IsAlone, IsOfBlock, IsTryAt, LacksClock, Obeys, Outcome, Props, Ran, Reply, Rules, State, after, after_try, again_more, all_more, alone_snoc, answers_through, begin_code, begins_alone, breaks_after, breaks_of, follows, gets_none, gets_through, grown, is_begin, is_done, is_open, map-append, opened, player_snoc, player_then, ran_of, reply, state_more, state_then, takes_clock, turn}
+use Rattle.tx_attempts.{specs.Attempts.ClosedBy, specs.Attempts.alone, specs.Attempts.pair_of, specs.Outrun.IsDisturbed}
 use Rattle.tx_attempts.specs.declared.attempt.Outcome.TheVariants as outcomes
 
 -- a begin, by its arguments
@@ -137,14 +135,17 @@ module _ {P : Type 0} {rules : Rules P} (laws : Obeys rules) (deepest : ℕ) whe
     -- ## Without a commit
 
     -- in conflict, full, for want of memory, or not ended yet
-    pub try_stops : (n : ℕ) (memories : ℕ → List ℕ) (k : ℕ) (outcome : Outcome) (ran : List Ran) → is_done outcome ≡ false → (made : IsMadeAlone rules deepest b t.start row (memories k)) → EndsAs outcome (state_then deepest (breaks_of row.restarts) (opened (memories k) t.start.arena t.start.props) row.calls.list)
-        → row.began + length row.restarts ≤ k → k ≤ n → ran ≡ ran_of outcome (state_then deepest (breaks_of row.restarts) (opened (memories k) t.start.arena t.start.props) row.calls.list)
-        → (outcome ≡ outcomes.Full → LacksClock rules deepest (rules.answered t.start.player (begin_code b.again)) row (memories k))
+    pub try_stops : (n : ℕ) (memories : ℕ → List ℕ) (k : ℕ) (memory : List ℕ) → memories k ≡ memory → (outcome : Outcome) (ran : List Ran) → is_done outcome ≡ false → IsMadeAlone rules deepest b t.start row memory → EndsAs outcome (state_then deepest (breaks_of row.restarts) (opened memory t.start.arena t.start.props) row.calls.list)
+        → row.began + length row.restarts ≤ k → k ≤ n → ran ≡ ran_of outcome (state_then deepest (breaks_of row.restarts) (opened memory t.start.arena t.start.props) row.calls.list)
+        → (outcome ≡ outcomes.Full → LacksClock rules deepest (rules.answered t.start.player (begin_code b.again)) row memory)
         → IsTryAt rules deepest n memories b (Some t.start) (record row { at = k; ran = ran; outcome = outcome })
-    try_stops n memories k outcome ran undone made ends older newer ran_is full =
-        is_try n memories b t.start (record row { at = k; ran = ran; outcome = outcome }) t.arena t.props t.tries older newer made.alone ends (not_closed outcome undone row.calls.list) ran_is
-        (λ f. (let l = full f in record { call = l.call; rest = l.rest; answers_are = l.answers_are; revocable = l.revocable; takes = l.takes }))
-        (record { stand = made.again.stand; revocable = made.again.revocable })
+    try_stops n memories k memory here outcome ran undone made ends older newer ran_is full =
+        is_try n memories b t.start (record row { at = k; ran = ran; outcome = outcome }) t.arena t.props t.tries older newer
+        (subst (λ (bytes : List ℕ). IsAlone rules deepest (breaks_of row.restarts) (rules.answered t.start.player (begin_code b.again)) (opened bytes t.start.arena t.start.props) row.calls.list) (sym here) made.alone)
+        (subst (λ (bytes : List ℕ). EndsAs outcome (state_then deepest (breaks_of row.restarts) (opened bytes t.start.arena t.start.props) row.calls.list)) (sym here) ends) (not_closed outcome undone row.calls.list)
+        (ran_is ∙ ap (λ (bytes : List ℕ). ran_of outcome (state_then deepest (breaks_of row.restarts) (opened bytes t.start.arena t.start.props) row.calls.list)) (sym here))
+        (λ f. (let l = subst (LacksClock rules deepest (rules.answered t.start.player (begin_code b.again)) row) (sym here) (full f) in record { call = l.call; rest = l.rest; answers_are = l.answers_are; revocable = l.revocable; takes = l.takes }))
+        (let again = subst (AreRestarts deepest row) (sym here) made.again in record { stand = again.stand; revocable = again.revocable })
 
     -- ## One call more
 

@@ -39,9 +39,8 @@ module _ {P : Type 0} {rules : Rules P} {deepest : ℕ} {position : List ℕ} {b
 module _ {P : Type 0} {rules : Rules P} {deepest : ℕ} {position : List ℕ} {b : Between P} {row : Attempt} {points : List Savepoint} {p : P} {e : Core} (t : IsOpenTry rules deepest position b row points p e) where
   began_by : (most : Bounds) (bs : List Frame) (qs : List Savepoint) → HaveBegun rules deepest (entered_by rules deepest t.of_block) row e most bs qs → BeganBy qs row (length e.actions.ran)
   began_by most bs [] h = tt
-  began_by most [] (s ∷ qs) h = absurd (let none : s ∷ qs ≡ [] = h in cc)
-  began_by most (f ∷ []) (s ∷ qs) h = absurd (let none : s ∷ qs ≡ [] = h in cc)
   began_by most (f ∷ o ∷ outer) (s ∷ qs) h = (let few = h.0.few in let told = t.due in let less = before_no_more s.kept row.restarts in let r : due_at s row.restarts ≤ length e.actions.ran = omega arith in r)
+  began_by most bs (s ∷ qs) h = absurd (let none : s ∷ qs ≡ [] = h in cc)
 
   pub began_now : e.irrevocable ≡ false → BeganBy points row (length e.actions.ran)
   began_now revocable = began_by (bounds_now row e) e.blocks points (t.blocks revocable)

@@ -1,9 +1,12 @@
 -- An open attempt as it is told, over a memory that it may have read: its calls are its player's alone, and what is told as run is what they run.
 use Rattle.std.proofs.Common.{◌≡◌, ℕ, ◌+◌, Bool, true, false, List, [], ◌++◌, drop, length, refl, sym, ap, subst, ◌∙◌, arith, append-nil, length-append}
-use Rattle.run_rules.proofs.Common.{Adds, Attempt, Between, Call, Core, IsAlone, IsMemory, IsOpenTry, Outcome, Ran, ReadsFrom, Rules, Savepoint, State, adds_after, adds_given_up, after, begin_code, breaks_of, bytes_of, count_undone, drop-append_seam, entered_by, in_transaction, is_done, is_open, opened, ran_of, ran_on, reply, reply_told, state_then, telling, told_alone, told_state, told_then, undone, whole_then}
+use Rattle.run_rules.proofs.Common.{Adds, Agrees, Attempt, Between, Call, Core, IsAlone, IsMemory, IsOpenTry, LogRow, Outcome, Ran, ReadsFrom, Rules, Savepoint, State, adds_after, adds_given_up, after, begin_code, breaks_of, bytes_of, count_undone, drop-append_seam, entered_by, in_transaction, is_done, is_open, opened, ran_of, ran_on, reply, reply_told, state_then, telling, told_alone, told_state, told_then, undone, whole_then}
 use Rattle.tx_attempts.specs.declared.attempt.Outcome.TheVariants as outcomes
-use Rattle.run_rules.proofs.EngineStates.{stands_open}
-use Rattle.run_rules.proofs.Tries.{IsMadeAlone}
+use Rattle.run_rules.{proofs.EngineStates.stands_open, proofs.Tries.IsMadeAlone}
+
+-- of one that is not irrevocable the memory is one that agrees with the log
+pub agree_reads : (position : List ℕ) (irrevocable : Bool) (log : List LogRow) (m : List ℕ) → irrevocable ≡ false → Agrees m log → ReadsFrom irrevocable position log m
+agree_reads position irrevocable log m revocable agrees = subst (λ (b : Bool). ReadsFrom b position log m) (sym revocable) agrees
 
 module _ {P : Type 0} {rules : Rules P} {deepest : ℕ} {position : List ℕ} {b : Between P} {row : Attempt} {points : List Savepoint} {p : P} {e : Core} (t : IsOpenTry rules deepest position b row points p e)
     (m : List ℕ) (memory : IsMemory e.words m) (reads : ReadsFrom e.irrevocable position e.log m) where

@@ -13,8 +13,7 @@ use Rattle.script_program.specs.declared.instruction.Instruction.TheVariants as 
 use Rattle.script_program.specs.declared.instruction.Operation.TheVariants as operations
 use Rattle.script_program.specs.declared.instruction.ArenaWidth.TheVariants as widths
 use Rattle.script_program.specs.declared.schedule.Item.TheVariants.{Take, Out}
-use Rattle.script_asm.proofs.OnLiterals.{on_literals}
-use Rattle.script_asm.proofs.WorkedTexts.{line, script}
+use Rattle.script_asm.{proofs.OnLiterals.on_literals, proofs.WorkedTexts.line, proofs.WorkedTexts.script}
 
 -- with the limits that are not said
 abbrev listing : ℕ → List Part → Listing

@@ -1,11 +1,10 @@
 -- Lines that leave more to be kept, or more open.
 use Rattle.std.proofs.Common.{◌≡◌, ℕ, ◌+◌, ◌<◌, ◌≤◌, inl, inr, false, leb, List, [], ◌∷◌, ◌++◌, length, Option, Some, None, Result, Ok, refl, sym, ap, arith, length-append}
 use Rattle.script_asm.proofs.Common.{Adds, AsmFault, Instruction, Item, MAX_ACTORS, MAX_INSTRUCTIONS, MAX_ITEMS, MAX_LEVELS, Part, Placed, Sections, Shared, State, added, begins, begun, code_total, counted, ends_repeat, expanded, fault, init_count, instruction_total, kept, le-ltb, lt-leb, lt-ltb, obeyed, opened, planned, schedule_of, thread_total, threaded, within_never, without_innermost, ◌>>=◌}
-use Rattle.script_asm.specs.declared.words.Word.TheVariants as words
-use Rattle.script_fields.specs.declared.fault.AsmKind.TheVariants as kinds
-use Rattle.script_asm.specs.declared.groups.Group.{Group}
+use Rattle.script_asm.specs.declared.mnemonics.Word.TheVariants as words
+use Rattle.script_fields.specs.declared.fault.FaultKind.TheVariants as kinds
+use Rattle.script_asm.{specs.declared.groups.Group.Group, proofs.LineItems.some_items}
 use Rattle.script_program.proofs.AddedSections.{code_more}
-use Rattle.script_asm.proofs.LineItems.{some_items}
 use Rattle.script_fields.proofs.FirstLines.{chosen}
 
 -- ## Directives

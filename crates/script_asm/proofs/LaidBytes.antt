@@ -1,7 +1,7 @@
 -- Bytes for the memory, from their digits.
 use Rattle.std.proofs.Common.{◌≡◌, ℕ, ◌+◌, true, false, leb, List, [], ◌∷◌, ◌++◌, length, Some, Ok, refl, sym, ap, ◌∙◌}
 use Rattle.script_asm.proofs.Common.{Adds, Shared, State, fault, laid_in}
-use Rattle.script_fields.specs.declared.fault.AsmKind.TheVariants as kinds
+use Rattle.script_fields.specs.declared.fault.FaultKind.TheVariants as kinds
 use Rattle.script_asm.proofs.KeptLines.{adds_init}
 
 abbrev pub with_bytes : State → Shared → ℕ → List ℕ → State

@@ -1,10 +1,8 @@
 -- The lines of plain texts.
 use Rattle.std.proofs.Common.{◌≡◌, ℕ, ◌-◌, Bool, true, false, cond, not, ◌||◌, eqb, List, [], ◌∷◌, length, take, refl, sym, ap, ◌∙◌, arith, slice_index}
 use Rattle.script_asm.proofs.Common.{and_parts, is_allowed, is_feed, is_plain, is_plain_or_feed, is_semicolon, is_shown, lines, lines_of_parts, list_all, onto_first, or_right, slice_split, strip_carriage_return, take_all, without_comment}
-use Rattle.std.proofs.lemmas.List.Sums.{AllPass-from_list_all, list_all-from_AllPass}
-use Rattle.std.proofs.lemmas.List.Elements.{All-take}
-use Rattle.script_fields.proofs.SpelledFields.{none_before}
-use Rattle.script_fields.proofs.SpelledNumbers.{list_all-weaker}
+use Rattle.std.{proofs.lemmas.List.Sums.AllPass-from_list_all, proofs.lemmas.List.Sums.list_all-from_AllPass, proofs.lemmas.List.Elements.All-take}
+use Rattle.script_fields.{proofs.SpelledFields.none_before, proofs.SpelledNumbers.list_all-weaker}
 
 -- ## One line
 

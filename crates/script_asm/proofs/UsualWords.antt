@@ -8,8 +8,8 @@ use Rattle.itm_types.specs.declared.access.WriteHint.TheVariants as write
 use Rattle.itm_entries.specs.declared.entry.Control.TheVariants as control
 use Rattle.itm_entries.specs.declared.entry.Entry.{Entry}
 use Rattle.itm_entries.specs.declared.entry.Entry.TheVariants as entry
-use Rattle.script_asm.specs.declared.words.Word.TheVariants as words
-use Rattle.script_asm.specs.declared.words.Mnemonic.TheVariants as mnemonics
+use Rattle.script_asm.specs.declared.mnemonics.Word.TheVariants as words
+use Rattle.script_asm.specs.declared.mnemonics.Mnemonic.TheVariants as mnemonics
 
 -- a field that equals a text has the text's word
 named : (f text : List ℕ) (e : Entry) → bytes_eq f text ≡ true → word_of text ≡ Some (words.Code (mnemonics.Entry e)) → word_of f ≡ Some (words.Code (mnemonics.Entry e))

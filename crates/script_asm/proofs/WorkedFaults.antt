@@ -1,9 +1,8 @@
 -- Worked scripts, by computation: each kind of fault, and the order of several.
 use Rattle.std.proofs.Common.{◌≡◌, ℕ, List, [], ◌∷◌, ◌<◌, ◌++◌, length, refl, codes}
 use Rattle.script_asm.proofs.Common.{MAX_TEXT, fault, lt-ltb, program_of}
-use Rattle.script_fields.specs.declared.fault.AsmKind.TheVariants as kinds
-use Rattle.script_asm.proofs.OnLiterals.{on_literals}
-use Rattle.script_asm.proofs.WorkedTexts.{line, script}
+use Rattle.script_fields.specs.declared.fault.FaultKind.TheVariants as kinds
+use Rattle.script_asm.{proofs.OnLiterals.on_literals, proofs.WorkedTexts.line, proofs.WorkedTexts.script}
 
 -- ## Faults of one line
 

@@ -3,13 +3,13 @@ use Rattle.std.specs.Prelude.{ℕ, ◌+◌, nat_lt, List, [], ◌∷◌, length,
 use Rattle.std.specs.List.{list_all}
 use Rattle.std.specs.Str.Lines.{lines}
 use Rattle.itm_types.specs.declared.limits.TheConstants.{MAX_ARENA, MAX_PATIENCE, MAX_RESTARTS, MAX_RETRIES, MAX_COMMITS, MAX_DEPTH}
-use Rattle.script_fields.specs.declared.fault.AsmKind.TheVariants as kinds
+use Rattle.script_fields.specs.declared.fault.FaultKind.TheVariants as kinds
 use Rattle.script_fields.specs.declared.fault.AsmFault.{AsmFault}
 use Rattle.script_fields.specs.Text.{fields, without_comment, is_allowed}
 use Rattle.script_fields.specs.Shapes.{none, size_of, limit_of, init_of, count_of}
 use Rattle.script_program.specs.declared.limits.TheConstants.{MAX_TEXT, MAX_REPEATS}
-use Rattle.script_asm.specs.declared.words.Word.{Word}
-use Rattle.script_asm.specs.declared.words.Word.TheVariants as words
+use Rattle.script_asm.specs.declared.mnemonics.Word.{Word}
+use Rattle.script_asm.specs.declared.mnemonics.Word.TheVariants as words
 use Rattle.script_asm.specs.declared.state.State.{State}
 use Rattle.script_program.specs.Listing.{Listing, Shared, limits_of, arena_of}
 use Rattle.script_program.specs.Sections.{parts_of, thread_total}
@@ -19,7 +19,7 @@ use Rattle.script_asm.specs.Words.{word_of}
 use Rattle.script_asm.specs.Items.{schedule_of}
 use Rattle.script_asm.specs.Code.{instruction_of}
 use Rattle.script_asm.specs.Readings.{fault, at_line, ◌>>=◌}
-use Rattle.script_asm.specs.Standing.{has_begun, may_stand}
+use Rattle.script_asm.specs.Placement.{has_begun, may_stand}
 use Rattle.script_asm.specs.Directives.{laid_in, scheduled, threaded}
 use Rattle.script_asm.specs.Blocks.{run_code, repeats, repeated}
 

@@ -1,6 +1,6 @@
 -- What the lines of a section say: one more instruction, and blocks and groups that begin and end.
 use Rattle.std.specs.Prelude.{ℕ, ◌+◌, ◌||◌, Bool, true, false, nat_eq, nat_lt, nat_le, [], ◌∷◌, ◌++◌, length, Option, Some, Result, Ok, if◌then◌else◌}
-use Rattle.script_fields.specs.declared.fault.AsmKind.TheVariants as kinds
+use Rattle.script_fields.specs.declared.fault.FaultKind.TheVariants as kinds
 use Rattle.script_fields.specs.declared.fault.AsmFault.{AsmFault}
 use Rattle.script_program.specs.declared.limits.TheConstants.{MAX_INSTRUCTIONS, MAX_LEVELS}
 use Rattle.script_program.specs.declared.instruction.Instruction.{Instruction}

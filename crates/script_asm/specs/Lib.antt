@@ -3,7 +3,7 @@ pub mod Readings
 pub mod Words
 pub mod Code
 pub mod Items
-pub mod Standing
+pub mod Placement
 pub mod Directives
 pub mod Blocks
 pub mod Assembly

@@ -5,9 +5,9 @@ use Rattle.itm_entries.specs.Entries.{entry_of}
 use Rattle.script_fields.specs.Names.{lookup}
 use Rattle.script_program.specs.declared.instruction.Operation.TheVariants as operations
 use Rattle.script_program.specs.declared.instruction.ArenaWidth.TheVariants as widths
-use Rattle.script_asm.specs.declared.words.Word.{Word}
-use Rattle.script_asm.specs.declared.words.Word.TheVariants as words
-use Rattle.script_asm.specs.declared.words.Mnemonic.TheVariants as mnemonics
+use Rattle.script_asm.specs.declared.mnemonics.Word.{Word}
+use Rattle.script_asm.specs.declared.mnemonics.Word.TheVariants as words
+use Rattle.script_asm.specs.declared.mnemonics.Mnemonic.TheVariants as mnemonics
 
 -- the words that are no entry points
 abbrev pub table : List (List ℕ × Word)

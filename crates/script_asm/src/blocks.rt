@@ -8,7 +8,7 @@ ghost use Rattle.script_asm.specs.Wants.{Steps};
 use crate::groups::Group;
 use crate::state::State;
 use crate::stop::{Stop, fault};
-use script_fields::AsmKind;
+use script_fields::FaultKind;
 use script_program::Instruction;
 
 /// One more instruction. Its code stands where it is called: an answer has room for a fault, which would be cleared and
@@ -19,7 +19,7 @@ fn push_code(state: &mut State, line: usize, instruction: &Instruction) -> Resul
     ensures { Steps result state.old state.new (counted state.old line instruction.now) }
 {
     if state.threads.is_full() {
-        return fault(line, AsmKind::TooLong);
+        return fault(line, FaultKind::TooLong);
     }
     if state.levels.within_never() {
         state.threads.leave_out();
@@ -41,7 +41,7 @@ fn begin(
     ensures { Steps result state.old state.new (begins state.old line instruction.now group) }
 {
     if state.levels.is_full() {
-        return fault(line, AsmKind::TooLong);
+        return fault(line, FaultKind::TooLong);
     }
     push_code(state, line, instruction)?;
     match state.levels.push(line, group) {
@@ -64,7 +64,7 @@ fn end_block(state: &mut State, line: usize) -> Result<(), Stop>
 {
     match state.levels.innermost() {
         Some(Group::Block) => end(state, line, &Instruction::Commit),
-        _ => fault(line, AsmKind::Unbalanced),
+        _ => fault(line, FaultKind::Unbalanced),
     }
 }
 
@@ -77,7 +77,7 @@ fn turn_group(state: &mut State, line: usize) -> Result<(), Stop>
             state.levels.turn();
             Ok(())
         }
-        _ => fault(line, AsmKind::Unbalanced),
+        _ => fault(line, FaultKind::Unbalanced),
     }
 }
 
@@ -87,7 +87,7 @@ fn end_group(state: &mut State, line: usize) -> Result<(), Stop>
     match state.levels.innermost() {
         Some(Group::First) => end(state, line, &Instruction::EndIf),
         Some(Group::Second) => end(state, line, &Instruction::EndIf),
-        _ => fault(line, AsmKind::Unbalanced),
+        _ => fault(line, FaultKind::Unbalanced),
     }
 }
 
@@ -111,7 +111,7 @@ pub fn begin_repeat(state: &mut State, line: usize, times: usize) -> Result<(), 
     ensures { Steps result state.old state.new (repeats state.old line times) }
 {
     if state.levels.is_full() {
-        return fault(line, AsmKind::TooLong);
+        return fault(line, FaultKind::TooLong);
     }
     let start = if times == 0 || state.levels.within_never() {
         state.threads.left_out()
@@ -129,7 +129,7 @@ fn count_again(state: &mut State, line: usize, start: usize, times: usize) -> Re
     ensures { Steps result state.old state.new (ends_repeat state.old line (again true state.old.threads start times)) }
 {
     if state.threads.exceeds_left_out(start, times) {
-        return fault(line, AsmKind::TooLong);
+        return fault(line, FaultKind::TooLong);
     }
     state.threads.count_again(start, times);
     state.levels.pop();
@@ -141,7 +141,7 @@ fn stand_again(state: &mut State, line: usize, start: usize, times: usize) -> Re
     ensures { Steps result state.old state.new (ends_repeat state.old line (again false state.old.threads start times)) }
 {
     if state.threads.exceeds(start, times) {
-        return fault(line, AsmKind::TooLong);
+        return fault(line, FaultKind::TooLong);
     }
     match state.threads.repeat(start, times) {
         Ok(()) => {
@@ -165,6 +165,6 @@ pub fn end_repeat(state: &mut State, line: usize) -> Result<(), Stop>
                 stand_again(state, line, start, times)
             }
         }
-        _ => fault(line, AsmKind::Unbalanced),
+        _ => fault(line, FaultKind::Unbalanced),
     }
 }

@@ -6,17 +6,17 @@ ghost use Rattle.script_fields.specs.Text.{fields};
 ghost use Rattle.script_fields.specs.Operands.{Sees};
 ghost use Rattle.script_asm.specs.Code.{control_code, entry_code, instruction_of};
 
-use crate::words::Mnemonic;
+use crate::mnemonics::Mnemonic;
 use itm_entries::{Control, Entry};
 use script_fields::{
-    AsmKind, abort_scope, commit_action, no_field, one_place, one_register, only_mode,
+    FaultKind, abort_scope, commit_action, no_field, one_place, one_register, only_mode,
     place_register, register_literal, register_number, register_place, register_props,
     three_places, three_registers, two_places, two_registers, undo_action,
 };
 use script_program::Instruction;
 
 #[tactic(auto, unfolding(crate::specs::Code::control_code))]
-fn control_into(control: Control, rest: &[u8], into: &mut Instruction) -> Result<(), AsmKind>
+fn control_into(control: Control, rest: &[u8], into: &mut Instruction) -> Result<(), FaultKind>
     ensures { Sees (λ _. into.new) result (control_code control (fields rest.now)) }
 {
     match control {
@@ -53,7 +53,7 @@ fn control_into(control: Control, rest: &[u8], into: &mut Instruction) -> Result
 }
 
 #[tactic(auto, unfolding(crate::specs::Code::entry_code))]
-fn entry_into(entry: Entry, rest: &[u8], into: &mut Instruction) -> Result<(), AsmKind>
+fn entry_into(entry: Entry, rest: &[u8], into: &mut Instruction) -> Result<(), FaultKind>
     ensures { Sees (λ _. into.new) result (entry_code entry (fields rest.now)) }
 {
     match entry {
@@ -114,7 +114,7 @@ pub fn instruction_into(
     mnemonic: Mnemonic,
     rest: &[u8],
     into: &mut Instruction,
-) -> Result<(), AsmKind>
+) -> Result<(), FaultKind>
     ensures { Sees (λ _. into.new) result (instruction_of mnemonic (fields rest.now)) }
 {
     match mnemonic {

@@ -3,7 +3,7 @@
 ghost use Rattle.std.specs.Prelude.{◌≡◌, true};
 ghost use Rattle.script_fields.specs.Text.{fields};
 ghost use Rattle.script_fields.specs.Operands.{decoded, is_hex};
-ghost use Rattle.script_asm.specs.declared.words.Word.TheVariants as words;
+ghost use Rattle.script_asm.specs.declared.mnemonics.Word.TheVariants as words;
 ghost use Rattle.script_asm.specs.Directives.{laid_in};
 ghost use Rattle.script_asm.specs.Assembly.{obeyed};
 ghost use Rattle.script_asm.specs.Wants.{Steps};
@@ -12,7 +12,7 @@ use crate::items::{add_items, count_items};
 use crate::state::State;
 use crate::stop::{Stop, fault};
 use itm_types::{MAX_ARENA, MAX_COMMITS, MAX_DEPTH, MAX_PATIENCE, MAX_RESTARTS, MAX_RETRIES};
-use script_fields::{AsmKind, init_of, limit_of, size_of};
+use script_fields::{FaultKind, init_of, limit_of, size_of};
 use script_program::{MAX_ITEMS, Opening, Size};
 use std::alloc::Global;
 
@@ -36,10 +36,10 @@ fn lay_in(alloc: Global, state: &mut State, line: usize, at: u64, digits: &[u8])
     ensures { Steps result state.old state.new (laid_in state.old line (at, decoded digits.now) state.old.memory) }
 {
     let Some(opening) = &mut state.memory else {
-        return fault(line, AsmKind::Misplaced);
+        return fault(line, FaultKind::Misplaced);
     };
     if !opening.fits(at, digits.len() / 2) {
-        return fault(line, AsmKind::Range);
+        return fault(line, FaultKind::Range);
     }
     let Ok(bytes) = hex::decode(alloc, digits) else {
         return Err(Stop::Memory);
@@ -158,7 +158,7 @@ pub fn read_schedule(state: &mut State, line: usize, rest: &[u8]) -> Result<(), 
         Ok(count) => {
             let total = before.saturating_add(count);
             if MAX_ITEMS < total {
-                return fault(line, AsmKind::TooLong);
+                return fault(line, FaultKind::TooLong);
             }
             Err(Stop::Memory)
         }

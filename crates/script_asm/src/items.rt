@@ -5,7 +5,7 @@ ghost use Rattle.script_fields.specs.Text.{fields};
 ghost use Rattle.script_program.specs.Schedules.{planned};
 ghost use Rattle.script_asm.specs.Items.{is_times, thread_number, events, item_of, items_in, schedule_of};
 
-use script_fields::{AsmKind, both, first_field, number, within};
+use script_fields::{FaultKind, both, first_field, number, within};
 use script_program::{Item, MAX_EVENTS, MAX_ITEMS, Plan};
 
 fn times_at(field: &[u8]) -> Option<usize>
@@ -21,7 +21,7 @@ fn thread_number(n: u64) -> u8
 }
 
 #[tactic(auto, unfolding(crate::specs::Items::events))]
-fn events(field: &[u8]) -> Result<u32, AsmKind>
+fn events(field: &[u8]) -> Result<u32, FaultKind>
     ensures { result ≡ events field.now }
 {
     Ok(within(1, MAX_EVENTS, number(field)?)? as u32)
@@ -30,14 +30,14 @@ fn events(field: &[u8]) -> Result<u32, AsmKind>
 /// An item. Its code stands where it is called, since a line of a long schedule has many.
 #[inline(always)]
 #[tactic(auto, unfolding(crate::specs::Items::item_of))]
-fn item_of(field: &[u8]) -> Result<Item, AsmKind>
+fn item_of(field: &[u8]) -> Result<Item, FaultKind>
     ensures { result ≡ item_of field.now }
 {
     if let [front @ .., b'!'] = field {
         return Ok(Item::Out(thread_number(number(front)?)));
     }
     let Some(at) = times_at(field) else {
-        return Err(AsmKind::Operand);
+        return Err(FaultKind::Operand);
     };
     let (thread, _) = field.split_at(at);
     let (_, count) = field.split_at(at + 1);
@@ -46,7 +46,7 @@ fn item_of(field: &[u8]) -> Result<Item, AsmKind>
 }
 
 /// How many items there are.
-pub fn count_items(rest: &[u8]) -> Result<usize, AsmKind>
+pub fn count_items(rest: &[u8]) -> Result<usize, FaultKind>
     ensures items { OnOk result (schedule_of (fields rest.now) ≡ Ok (items_in (fields rest.now))) }
     ensures count { IfOk result (λ n. n ≡ length (items_in (fields rest.now))) }
     ensures refused { IfErr result (λ k. schedule_of (fields rest.now) ≡ Err k) }
@@ -57,14 +57,14 @@ pub fn count_items(rest: &[u8]) -> Result<usize, AsmKind>
     while let Some((field, after)) = first_field(rest) {
         match item_of(field) {
             Ok(_) => count += 1,
-            Err(AsmKind::Operand) => return Err(AsmKind::Operand),
+            Err(FaultKind::Operand) => return Err(FaultKind::Operand),
             Err(kind) => beyond = Some(kind),
         }
         rest = after;
     }
     match beyond {
         Some(kind) => Err(kind),
-        None if count == 0 => Err(AsmKind::Operand),
+        None if count == 0 => Err(FaultKind::Operand),
         None => Ok(count),
     }
 }

@@ -41,14 +41,14 @@ mod code;
 mod directives;
 mod groups;
 mod items;
+mod mnemonics;
 mod obeying;
+mod placement;
 mod reading;
-mod standing;
 mod state;
 mod stop;
 mod whole;
-mod words;
 
-pub use script_fields::{AsmFault, AsmKind};
+pub use script_fields::{AsmFault, FaultKind};
 pub use script_program::{Item, Program};
 pub use whole::assemble;

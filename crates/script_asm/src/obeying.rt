@@ -2,7 +2,7 @@
 
 ghost use Rattle.std.specs.Prelude.{◌≡◌};
 ghost use Rattle.script_fields.specs.Text.{fields};
-ghost use Rattle.script_asm.specs.declared.words.Word.TheVariants as words;
+ghost use Rattle.script_asm.specs.declared.mnemonics.Word.TheVariants as words;
 ghost use Rattle.script_asm.specs.Groups.{innermost_line};
 ghost use Rattle.script_asm.specs.Directives.{threaded};
 ghost use Rattle.script_asm.specs.Assembly.{obeyed};
@@ -14,11 +14,11 @@ use crate::directives::{
     read_arena, read_commits, read_depth, read_init, read_memory, read_patience, read_restarts,
     read_retries, read_schedule,
 };
+use crate::mnemonics::{Mnemonic, Word};
 use crate::state::State;
 use crate::stop::{Stop, fault};
-use crate::words::{Mnemonic, Word};
 use itm_types::MAX_ACTORS;
-use script_fields::{AsmKind, count_of, limit_of, no_field};
+use script_fields::{FaultKind, count_of, limit_of, no_field};
 use script_program::{Instruction, MAX_REPEATS};
 use std::alloc::Global;
 
@@ -28,10 +28,10 @@ fn begin_threads(alloc: Global, state: &mut State, line: usize, count: u64) -> R
     ensures { Steps result state.old state.new (threaded state.old line count (innermost_line state.old.levels)) }
 {
     if let Some(begin) = state.levels.innermost_line() {
-        return fault(begin, AsmKind::Unbalanced);
+        return fault(begin, FaultKind::Unbalanced);
     }
     if ((MAX_ACTORS - state.threads.count()) as u64) < count {
-        return fault(line, AsmKind::TooLong);
+        return fault(line, FaultKind::TooLong);
     }
     match state.threads.begin(alloc, count as usize) {
         Ok(()) => Ok(()),

@@ -7,12 +7,12 @@ ghost use Rattle.script_asm.specs.Assembly.{meaning, end_of};
 ghost use Rattle.script_asm.specs.PlainTexts.{is_plain, is_plain_or_feed};
 ghost use Rattle.script_asm.specs.Wants.{Steps};
 
+use crate::mnemonics::word_of;
 use crate::obeying::obey;
-use crate::standing::may_stand;
+use crate::placement::may_stand;
 use crate::state::State;
 use crate::stop::{Stop, fault};
-use crate::words::word_of;
-use script_fields::{AsmFault, AsmKind, code_part, first_field, has_allowed};
+use script_fields::{AsmFault, FaultKind, code_part, first_field, has_allowed};
 use script_program::Program;
 use std::alloc::Global;
 
@@ -55,16 +55,16 @@ pub fn read_line(
     ensures { Steps result state.old state.new (meaning state.old number line.now) }
 {
     let Some(code) = code_of(line, plain) else {
-        return fault(number, AsmKind::Character);
+        return fault(number, FaultKind::Character);
     };
     let Some((first, rest)) = first_field(code) else {
         return Ok(());
     };
     let Some(word) = word_of(first) else {
-        return fault(number, AsmKind::Unknown);
+        return fault(number, FaultKind::Unknown);
     };
     if !may_stand(state, word) {
-        return fault(number, AsmKind::Misplaced);
+        return fault(number, FaultKind::Misplaced);
     }
     obey(alloc, state, number, word, rest)
 }
@@ -77,7 +77,7 @@ pub fn finish(state: State) -> Result<Program, AsmFault>
     if let Some(line) = state.levels.innermost_line() {
         return Err(AsmFault {
             line,
-            kind: AsmKind::Unbalanced,
+            kind: FaultKind::Unbalanced,
         });
     }
     let State {
@@ -91,7 +91,7 @@ pub fn finish(state: State) -> Result<Program, AsmFault>
         Some(opening) if threads.has_begun() => match schedule.stray(threads.count()) {
             Some(line) => Err(AsmFault {
                 line,
-                kind: AsmKind::Range,
+                kind: FaultKind::Range,
             }),
             None => Ok(Program::new(
                 opening,
@@ -103,7 +103,7 @@ pub fn finish(state: State) -> Result<Program, AsmFault>
         },
         _ => Err(AsmFault {
             line: 0,
-            kind: AsmKind::Misplaced,
+            kind: FaultKind::Misplaced,
         }),
     }
 }

@@ -3,7 +3,7 @@
 ghost use Rattle.std.specs.Prelude.{◌≡◌, Err};
 ghost use Rattle.script_asm.specs.declared.stop.Stop.TheVariants.{Memory, Fault};
 
-use script_fields::{AsmFault, AsmKind};
+use script_fields::{AsmFault, FaultKind};
 use std::alloc::{AllocError, AllocFailed};
 
 /// Memory was refused, or a line is at fault.
@@ -38,7 +38,7 @@ impl From<AsmFault> for Stop {
 }
 
 /// The fault of a line.
-pub fn fault(line: usize, kind: AsmKind) -> Result<(), Stop>
+pub fn fault(line: usize, kind: FaultKind) -> Result<(), Stop>
     ensures { result ≡ Err (Fault (record { line = line; kind = kind })) }
 {
     Err(Stop::Fault(AsmFault { line, kind }))

@@ -10,7 +10,7 @@ use crate::groups::Groups;
 use crate::reading::{finish, is_plain, read_line};
 use crate::state::State;
 use crate::stop::Stop;
-use script_fields::{AsmFault, AsmKind, first_line};
+use script_fields::{AsmFault, FaultKind, first_line};
 use script_program::{MAX_TEXT, Plan, Program, SaidLimits, Threads};
 use std::alloc::Global;
 
@@ -49,7 +49,7 @@ fn read_text(alloc: Global, text: &[u8], number: &mut usize) -> Result<Program, 
     if MAX_TEXT < text.len() {
         return Err(Stop::Fault(AsmFault {
             line: 0,
-            kind: AsmKind::TooLong,
+            kind: FaultKind::TooLong,
         }));
     }
     Ok(finish(read_lines(alloc, text, number)?)?)
@@ -60,7 +60,7 @@ fn read_text(alloc: Global, text: &[u8], number: &mut usize) -> Result<Program, 
 /// Lines are read in order, and the first that has a fault decides. What is wrong with the whole is told after the
 /// last line: a block or a group that is left open, in the line of the innermost beginning; no `.thread`, in line 0;
 /// an item of `.schedule` whose thread is not there, in the first such line. A text of more than 16,777,216 bytes is
-/// too long in line 0. Where memory is refused, the fault is `AsmKind::Memory` in the line that was read.
+/// too long in line 0. Where memory is refused, the fault is `FaultKind::Memory` in the line that was read.
 pub fn assemble(alloc: Global, text: &[u8]) -> Result<Program, AsmFault>
     ensures { IsAnswer result text.now }
 {
@@ -70,7 +70,7 @@ pub fn assemble(alloc: Global, text: &[u8]) -> Result<Program, AsmFault>
         Err(Stop::Fault(fault)) => Err(fault),
         Err(Stop::Memory) => Err(AsmFault {
             line: number,
-            kind: AsmKind::Memory,
+            kind: FaultKind::Memory,
         }),
     }
 }

@@ -11,7 +11,7 @@ unfoldable pub use Rattle.script_fields.specs.Shapes.{abort_scope, commit_action
 pub use Rattle.script_fields.specs.Spelling.{IsLiteral, IsPlace, literal_text, mode_text, no_transaction_text, place_text, said_bytes, scope_text}
 unfoldable pub use Rattle.script_fields.specs.Text.{fields, without_comment}
 pub use Rattle.script_fields.specs.Text.{ended, is_allowed, is_blank, is_feed, is_field_byte, is_ink, is_semicolon, is_some_field, IsField, IsLine, joined}
-pub use Rattle.script_fields.specs.declared.fault.AsmKind.{AsmKind}
+pub use Rattle.script_fields.specs.declared.fault.FaultKind.{FaultKind}
 pub use Rattle.script_fields.specs.declared.register.Register.TheVariants.{R0, R1, R10, R2}
 pub use Rattle.std.proofs.Math.Seq.{take-append_seam, take-length}
 pub use Rattle.std.proofs.lemmas.Bool.{and_parts, cases_Bool, eq-eqb, eqb-false, eqb-true, le-leb, le-ltb, leb-true, lt-ltb, ltb-false, ltb-true, ne_eqb, not-true, not_from_false, or_cases, or_left, or_right}

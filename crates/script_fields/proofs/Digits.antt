@@ -1,7 +1,7 @@
 -- The number that digits spell, from left to right.
 use Rattle.std.proofs.Common.{◌≡◌, ℕ, ◌+◌, ◌-◌, ◌*◌, ◌^◌, ◌<◌, ◌≤◌, Bool, true, false, not, ◌&&◌, cond, eqb, Ok, Err, List, [], ◌∷◌, length, drop, get_or, Some, None, refl, sym, ap, ◌∙◌, arith, drop-cons, add-one}
 use Rattle.script_fields.proofs.Common.{common_steps, in_range, is_number, le-leb, le-ltb, lt-ltb, number, value_after, value_of}
-use Rattle.script_fields.specs.declared.fault.AsmKind.TheVariants as kinds
+use Rattle.script_fields.specs.declared.fault.FaultKind.TheVariants as kinds
 
 value_ge : (n : ℕ) (cs : List ℕ) → n ≤ value_after n cs
 value_ge n [] = omega arith

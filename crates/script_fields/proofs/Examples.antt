@@ -1,7 +1,7 @@
 -- Worked cases, by computation.
 use Rattle.std.proofs.Common.{◌≡◌, true, false, [], ◌∷◌, ◌++◌, replicate, Ok, Err, refl, codes}
 use Rattle.script_fields.proofs.Common.{R0, R1, R10, R2, commit_action, count_of, fields, init_of, limit_of, lines, literal, literal_text, none, number, only_mode, place, props, register, register_literal, register_number, register_place, scope, size_of, three_registers, two_registers, undo_action, without_comment}
-use Rattle.script_fields.specs.declared.fault.AsmKind.TheVariants as kinds
+use Rattle.script_fields.specs.declared.fault.FaultKind.TheVariants as kinds
 use Rattle.script_fields.specs.declared.place.Place.TheVariants as places
 use Rattle.script_fields.proofs.OnLiterals.{fields_on_literals}
 

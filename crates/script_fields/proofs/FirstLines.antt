@@ -1,6 +1,6 @@
 -- The first line of a text, and the first field of a line.
 use Rattle.std.proofs.Common.{◌≡◌, ℕ, ◌+◌, ◌<◌, ◌≤◌, Bool, true, false, cond, not, ltb, List, [], ◌∷◌, length, take, drop, filter, Some, None, refl, sym, ap, ◌∙◌, arith, position, get_or, inl, inr, ◌⊎◌, subst}
-use Rattle.script_fields.proofs.Common.{after_first, before_first, cases_Bool, common_steps, fields, is_blank, is_feed, is_ink, is_semicolon, is_some_field, length-drop, length-slice_split, length-take, lines, lines_of_parts, lt-ltb, ltb-false, ltb-true, ne_eqb, onto_first, position_or_len, slice_split, slice_split-cons_no, slice_split-cons_yes, slice_split_first, strip_carriage_return, take_all}
+use Rattle.script_fields.proofs.Common.{before_first, cases_Bool, common_steps, fields, is_blank, is_feed, is_ink, is_semicolon, is_some_field, length-drop, length-slice_split, length-take, lines, lines_of_parts, lt-ltb, ltb-false, ltb-true, ne_eqb, onto_first, position_or_len, slice_split, slice_split-cons_no, slice_split-cons_yes, slice_split_first, strip_carriage_return, take_all}
 
 drop-one-more : (b : ℕ) (bs : List ℕ) (n : ℕ) → drop (1 + n) (b ∷ bs) ≡ drop n bs
 drop-one-more b bs n = grind (arith, common_steps)
@@ -53,16 +53,11 @@ lines_of_parts-cons x [] h = absurd (omega arith)
 lines_of_parts-cons x (y ∷ more) h = refl
 
 pub line_first : (text : List ℕ) (i : ℕ) → Some i ≡ position is_feed text → lines text ≡ strip_carriage_return (take i text) ∷ lines (drop (i + 1) text)
-line_first text i e =
-    let h = at_is is_feed text i e in
-    let cut = slice_split_first is_feed text 0 h.1 in
-    let parts : lines text ≡ strip_carriage_return (before_first is_feed text) ∷ lines (after_first is_feed text) =
-    ap lines_of_parts cut ∙ lines_of_parts-cons (before_first is_feed text) (slice_split is_feed (after_first is_feed text)) (parts_nonempty is_feed (after_first is_feed text)) in
-    subst (λ (n : ℕ). lines text ≡ strip_carriage_return (take n text) ∷ lines (drop (n + 1) text)) h.0 parts
+line_first text i e = ap lines_of_parts (parts_first is_feed text i e) ∙ lines_of_parts-cons (take i text) (slice_split is_feed (drop (i + 1) text)) (parts_nonempty is_feed (drop (i + 1) text))
 
 pub line_last : (text : List ℕ) → None ≡ position is_feed text → 0 < length text → lines text ≡ text ∷ []
 line_last [] e h = absurd (omega arith)
-line_last (x ∷ xs) e h = ap lines_of_parts (one_part is_feed (x ∷ xs) (at_none is_feed (x ∷ xs) e)) ∙ ap (λ (t : Bool). cond t [] ((x ∷ xs) ∷ [])) (ne_eqb (length (x ∷ xs)) 0 (λ q. omega arith))
+line_last (x ∷ xs) e h = ap lines_of_parts (parts_last is_feed (x ∷ xs) e) ∙ ap (λ (t : Bool). cond t [] ((x ∷ xs) ∷ [])) (ne_eqb (length (x ∷ xs)) 0 (λ q. omega arith))
 
 pub filter-yes : (x : List ℕ) (xs : List (List ℕ)) → 0 < length x → filter is_some_field (x ∷ xs) ≡ x ∷ filter is_some_field xs
 filter-yes [] xs h = absurd (omega arith)
@@ -77,19 +72,21 @@ blank_first (b ∷ bs) i e h =
     let one : position_or_len is_blank (b ∷ bs) ≡ 1 + position_or_len is_blank bs = first ∙ ap (λ (t : Bool). cond t 0 (1 + position_or_len is_blank bs)) h in
     omega (arith, one, at.0)
 
+-- the blank in front is left out, and what is no blank stays
+past_blank : (b : ℕ) (bs : List ℕ) → is_blank b ≡ true → drop (position_or_len is_ink (b ∷ bs)) (b ∷ bs) ≡ drop (position_or_len is_ink bs) bs
+past_blank b bs is = rw (first_place is_ink b bs, is) (drop-one-more b bs (position_or_len is_ink bs))
+
+at_ink : (b : ℕ) (bs : List ℕ) → is_blank b ≡ false → drop (position_or_len is_ink (b ∷ bs)) (b ∷ bs) ≡ b ∷ bs
+at_ink b bs isnt = rw (first_place is_ink b bs, isnt) refl
+
 -- blanks in front are no part of a field
 skip_blanks : (xs : List ℕ) → fields (drop (position_or_len is_ink xs) xs) ≡ fields xs
 unfolding fields
 skip_blanks [] = refl
 skip_blanks (b ∷ bs) =
     elim (cases_Bool (is_blank b)) [
-      | inl is ↦
-          let one : position_or_len is_ink (b ∷ bs) ≡ 1 + position_or_len is_ink bs = first_place is_ink b bs ∙ ap (λ (t : Bool). cond (not t) 0 (1 + position_or_len is_ink bs)) is in
-          let two : drop (position_or_len is_ink (b ∷ bs)) (b ∷ bs) ≡ drop (position_or_len is_ink bs) bs = rw one (drop-one-more b bs (position_or_len is_ink bs)) in
-          ap (λ (l : List ℕ). filter is_some_field (slice_split is_blank l)) two ∙ skip_blanks bs ∙ sym (ap (filter is_some_field) (slice_split-cons_yes is_blank b bs is))
-      | inr isnt ↦
-          let one : position_or_len is_ink (b ∷ bs) ≡ 0 = first_place is_ink b bs ∙ ap (λ (t : Bool). cond (not t) 0 (1 + position_or_len is_ink bs)) isnt in
-          ap (λ (n : ℕ). filter is_some_field (slice_split is_blank (drop n (b ∷ bs)))) one
+      | inl is ↦ ap fields (past_blank b bs is) ∙ skip_blanks bs ∙ sym (ap (filter is_some_field) (slice_split-cons_yes is_blank b bs is))
+      | inr isnt ↦ ap fields (at_ink b bs isnt)
     ]
 
 ink_there : (xs : List ℕ) → position_or_len is_ink xs < length xs → is_blank (get_or (drop (position_or_len is_ink xs) xs) 0 0) ≡ false
@@ -98,11 +95,8 @@ ink_there (b ∷ bs) h =
     elim (cases_Bool (is_blank b)) [
       | inl is ↦
           let one : position_or_len is_ink (b ∷ bs) ≡ 1 + position_or_len is_ink bs = first_place is_ink b bs ∙ ap (λ (t : Bool). cond (not t) 0 (1 + position_or_len is_ink bs)) is in
-          let two : drop (position_or_len is_ink (b ∷ bs)) (b ∷ bs) ≡ drop (position_or_len is_ink bs) bs = rw one (drop-one-more b bs (position_or_len is_ink bs)) in
-          ap (λ (l : List ℕ). is_blank (get_or l 0 0)) two ∙ ink_there bs (omega (arith, one))
-      | inr isnt ↦
-          let one : position_or_len is_ink (b ∷ bs) ≡ 0 = first_place is_ink b bs ∙ ap (λ (t : Bool). cond (not t) 0 (1 + position_or_len is_ink bs)) isnt in
-          ap (λ (n : ℕ). is_blank (get_or (drop n (b ∷ bs)) 0 0)) one ∙ isnt
+          rw (past_blank b bs is) (ink_there bs (omega (arith, one)))
+      | inr isnt ↦ rw (at_ink b bs isnt) isnt
     ]
 
 pub field_none : (line : List ℕ) → None ≡ position is_ink line → fields line ≡ []
@@ -115,15 +109,11 @@ cut_first : (rest : List ℕ) (i : ℕ) → Some i ≡ position is_blank rest �
 unfolding fields
 cut_first rest i e h =
     let at = at_is is_blank rest i e in
-    let cut = slice_split_first is_blank rest 0 at.1 in
-    let some : 0 < length (take (position_or_len is_blank rest) rest) = omega (arith, length-take (position_or_len is_blank rest) rest, at.0, at.1) in
-    let parts : fields rest ≡ before_first is_blank rest ∷ fields (after_first is_blank rest) =
-    ap (filter is_some_field) cut ∙ filter-yes (before_first is_blank rest) (slice_split is_blank (after_first is_blank rest)) some in
-    subst (λ (n : ℕ). fields rest ≡ take n rest ∷ fields (drop (n + 1) rest)) at.0 parts
+    ap (filter is_some_field) (parts_first is_blank rest i e) ∙ filter-yes (take i rest) (slice_split is_blank (drop (i + 1) rest)) (omega (arith, length-take i rest, at.0, at.1))
 
 cut_last : (rest : List ℕ) → None ≡ position is_blank rest → 0 < length rest → fields rest ≡ rest ∷ []
 unfolding fields
-cut_last rest e h = ap (filter is_some_field) (one_part is_blank rest (at_none is_blank rest e)) ∙ filter-yes rest [] h
+cut_last rest e h = ap (filter is_some_field) (parts_last is_blank rest e) ∙ filter-yes rest [] h
 
 pub field_first : (line : List ℕ) (s i : ℕ) → Some s ≡ position is_ink line → Some i ≡ position is_blank (drop s line) → fields line ≡ take i (drop s line) ∷ fields (drop (i + 1) (drop s line))
 field_first line s i e f =

@@ -1,8 +1,8 @@
 -- What holds of what is read, where it is read.
 use Rattle.std.proofs.Common.{◌≡◌, Bool, true, false, cond, Result, Ok, Err, refl}
-use Rattle.script_fields.proofs.Common.{AsmKind, IfOk, both}
+use Rattle.script_fields.proofs.Common.{FaultKind, IfOk, both}
 use Rattle.std.specs.Bool.{⊤}
-use Rattle.script_fields.specs.declared.fault.AsmKind.TheVariants as kinds
+use Rattle.script_fields.specs.declared.fault.FaultKind.TheVariants as kinds
 
 -- of any reading
 pub any_if : {A E : Type 0} (r : Result A E) → IfOk r (λ _. ⊤)
@@ -33,7 +33,7 @@ after_if Q (Ok x) f h = h x
 after_if Q (Err k) f h = tt
 
 -- of two at once
-pub both_if : {A B : Type 0} (P : A → Type 0) (Q : B → Type 0) (p : Result A AsmKind) (q : Result B AsmKind) → IfOk p P → IfOk q Q → IfOk (both p q) (λ x. P x.0 × Q x.1)
+pub both_if : {A B : Type 0} (P : A → Type 0) (Q : B → Type 0) (p : Result A FaultKind) (q : Result B FaultKind) → IfOk p P → IfOk q Q → IfOk (both p q) (λ x. P x.0 × Q x.1)
 both_if P Q (Ok a) (Ok b) h k = (h, k)
 both_if P Q (Err j) (Ok b) h k = tt
 both_if P Q (Err kinds.Operand) (Err l) h k = tt

@@ -2,7 +2,7 @@
 use Rattle.std.proofs.Common.{◌≡◌, ◌≢◌, ℕ, zero, suc, ◌^◌, ◌<◌, ◌≤◌, Bool, true, false, cond, ltb, leb, eqb, not, ◌&&◌, List, length, get_or, Some, None, Ok, Err, refl, ap, arith, rules, lit<, inl, inr, decimal, [], ◌∷◌}
 use Rattle.script_fields.proofs.Common.{All-weaker, AllPass-from_list_all, IfOk, IsField, and_parts, cases_Bool, decimal_digit, decimal_nonempty, digits_decimal, digits_value-decimal, first_decimal, function, in_range, is_digit, is_field_byte, is_number, le-leb, leb-true, limit_of, list_all, list_all-from_AllPass, lt-ltb, ltb-true, ne_eqb, number, one, value_after, value_of, within}
 use Rattle.std.proofs.lemmas.Str.Parse.{IsNumeralModel, numerals_by_fold}
-use Rattle.script_fields.specs.declared.fault.AsmKind.TheVariants as kinds
+use Rattle.script_fields.specs.declared.fault.FaultKind.TheVariants as kinds
 use Rattle.script_fields.proofs.Readings.{choice_if}
 
 pub own : IsNumeralModel (λ ds. list_all is_digit ds ≡ true) (value_after 0)

@@ -1,12 +1,12 @@
 -- Operands that are written are read as they were.
 use Rattle.std.proofs.Common.{◌≡◌, ℕ, suc, ◌-◌, ◌*◌, ◌/◌, ◌%◌, ◌^◌, ◌<◌, ◌≤◌, Bool, true, false, eqb, leb, ltb, List, [], ◌∷◌, ◌++◌, length, take, replicate, Option, Some, None, Result, Ok, Err, refl, sym, ap, subst, ◌∙◌, arith, lit<, decimal, slice_index, cond, not, ◌&&◌}
-use Rattle.script_fields.proofs.Common.{All-get_or, AllPass-from_list_all, AsmKind, IfOk, IsBytes, IsField, IsLiteral, IsPlace, Props, R0, and_parts, decimal_nonempty, decode_of-encode_lower, decoded, digits, digits_to, encode_lower, encode_with, eq-eqb, is_digit, is_field_byte, is_hex, is_hex_digit, le-ltb, leb-true, length-append, length-encode_with, length-replicate, length-take, list_all, literal, literal_of, literal_text, lower_digits, ltb-false, mode, mode_text, named, ne_eqb, no_transaction, no_transaction_text, number, or_number, place, place_text, property, props, props_text, register, said_bytes, scope, scope_text, take-append_seam}
+use Rattle.script_fields.proofs.Common.{All-get_or, AllPass-from_list_all, FaultKind, IfOk, IsBytes, IsField, IsLiteral, IsPlace, Props, R0, and_parts, decimal_nonempty, decode_of-encode_lower, decoded, digits, digits_to, encode_lower, encode_with, eq-eqb, is_digit, is_field_byte, is_hex, is_hex_digit, le-ltb, leb-true, length-append, length-encode_with, length-replicate, length-take, list_all, literal, literal_of, literal_text, lower_digits, ltb-false, mode, mode_text, named, ne_eqb, no_transaction, no_transaction_text, number, or_number, place, place_text, property, props, props_text, register, said_bytes, scope, scope_text, take-append_seam}
 use Rattle.script_fields.specs.declared.literal.Literal.{Literal}
 use Rattle.script_fields.specs.declared.hex_digits.TheConstants.{MAX_INIT_DIGITS}
 use Rattle.script_fields.specs.declared.place.Place.{Place}
 use Rattle.script_fields.specs.declared.register.Register.{Register}
 use Rattle.script_fields.specs.Registers.{register_name}
-use Rattle.script_fields.specs.declared.fault.AsmKind.TheVariants as kinds
+use Rattle.script_fields.specs.declared.fault.FaultKind.TheVariants as kinds
 use Rattle.script_fields.specs.declared.place.Place.TheVariants as places
 use Rattle.script_fields.proofs.HexDigits.{decoded_is, hex_said}
 use Rattle.script_fields.proofs.Readings.{choice_if, then_if}
@@ -156,7 +156,7 @@ no_transaction_field = (lit< tt, refl)
 
 -- ## What is read
 
-some_place : (o : Option Register) (r : Result ℕ AsmKind) → IfOk r (λ n. n < 2 ^ 64) → IfOk (or_number o r) IsPlace
+some_place : (o : Option Register) (r : Result ℕ FaultKind) → IfOk r (λ n. n < 2 ^ 64) → IfOk (or_number o r) IsPlace
 some_place (Some s) r h = tt
 some_place None (Ok n) h = h
 some_place None (Err k) h = tt

@@ -2,7 +2,7 @@
 
 ghost use Rattle.std.proofs.Common.{rules, tests};
 
-use crate::fault::{AsmFault, AsmKind};
+use crate::fault::{AsmFault, FaultKind};
 use crate::literal::Literal;
 use crate::place::Place;
 use crate::register::Register;
@@ -12,7 +12,7 @@ impl ExactEq for AsmFault {
     ghost exact = { Prim.search (tests, rules) };
 }
 
-impl ExactEq for AsmKind {
+impl ExactEq for FaultKind {
     ghost exact = { Prim.search (tests, rules) };
 }
 

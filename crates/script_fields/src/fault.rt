@@ -9,7 +9,7 @@ use std::fmt;
 /// The kinds of faults. Of several on one line the first of this order is told: `Character`, `Unknown`, `Misplaced`,
 /// `Operand`, `Range`, `Unbalanced`, `TooLong`.
 #[derive(Clone, Copy, Debug, PartialEq, Eq)]
-pub enum AsmKind {
+pub enum FaultKind {
     /// A byte that a line may not hold outside comments.
     Character,
     /// The first field is no word of the language.
@@ -28,20 +28,20 @@ pub enum AsmKind {
     Memory,
 }
 
-impl AsmKind {
+impl FaultKind {
     /// The kind's number.
     pub fn number(self) -> u8
         ensures { result ≡ number_of self }
     {
         match self {
-            AsmKind::Character => 1,
-            AsmKind::Unknown => 2,
-            AsmKind::Operand => 3,
-            AsmKind::Range => 4,
-            AsmKind::Misplaced => 5,
-            AsmKind::Unbalanced => 6,
-            AsmKind::TooLong => 7,
-            AsmKind::Memory => 8,
+            FaultKind::Character => 1,
+            FaultKind::Unknown => 2,
+            FaultKind::Operand => 3,
+            FaultKind::Range => 4,
+            FaultKind::Misplaced => 5,
+            FaultKind::Unbalanced => 6,
+            FaultKind::TooLong => 7,
+            FaultKind::Memory => 8,
         }
     }
 
@@ -51,19 +51,19 @@ impl AsmKind {
         ensures { result.now ≡ kind_text self }
     {
         match self {
-            AsmKind::Character => "bad character",
-            AsmKind::Unknown => "unknown name",
-            AsmKind::Operand => "wrong operand",
-            AsmKind::Range => "out of range",
-            AsmKind::Misplaced => "misplaced",
-            AsmKind::Unbalanced => "unbalanced",
-            AsmKind::TooLong => "too long",
-            AsmKind::Memory => "no memory",
+            FaultKind::Character => "bad character",
+            FaultKind::Unknown => "unknown name",
+            FaultKind::Operand => "wrong operand",
+            FaultKind::Range => "out of range",
+            FaultKind::Misplaced => "misplaced",
+            FaultKind::Unbalanced => "unbalanced",
+            FaultKind::TooLong => "too long",
+            FaultKind::Memory => "no memory",
         }
     }
 }
 
-impl fmt::Display for AsmKind {
+impl fmt::Display for FaultKind {
     ghost use Rattle.std.specs.Prelude.{Some};
     ghost use Rattle.script_fields.specs.Faults.{kind_text};
 
@@ -78,7 +78,7 @@ impl fmt::Display for AsmKind {
 #[derive(Clone, Copy, Debug, PartialEq, Eq)]
 pub struct AsmFault {
     pub line: usize,
-    pub kind: AsmKind,
+    pub kind: FaultKind,
 }
 
 impl fmt::Display for AsmFault {

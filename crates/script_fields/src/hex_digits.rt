@@ -5,7 +5,7 @@ ghost use Rattle.std.specs.List.{list_all};
 ghost use Rattle.hex.specs.Hex.{is_hex_digit};
 ghost use Rattle.script_fields.specs.Operands.{Sees, is_hex, decoded, digits_to, digits, literal_of, literal};
 
-use crate::fault::AsmKind;
+use crate::fault::FaultKind;
 use crate::literal::Literal;
 use hex::decode_to_slice;
 
@@ -30,23 +30,23 @@ fn is_hex(field: &[u8]) -> bool
 }
 
 /// Hexadecimal digits, two for each byte, and at most so many.
-fn digits_to(most: usize, field: &[u8]) -> Result<&[u8], AsmKind>
+fn digits_to(most: usize, field: &[u8]) -> Result<&[u8], FaultKind>
     ensures value { Sees (λ x. decoded x.now) result (digits_to most field.now) }
     ensures hex { IfOk result (λ x. is_hex x.now ≡ true) }
     ensures few { IfOk result (λ x. length x.now ≤ most) }
 {
     if !is_hex(field) {
-        return Err(AsmKind::Operand);
+        return Err(FaultKind::Operand);
     }
     if most < field.len() {
-        return Err(AsmKind::Range);
+        return Err(FaultKind::Range);
     }
     Ok(field)
 }
 
 /// Hexadecimal digits of bytes for the memory: at most 131,072.
 #[tactic(auto, unfolding(crate::specs::Operands::digits))]
-pub fn digits(field: &[u8]) -> Result<&[u8], AsmKind>
+pub fn digits(field: &[u8]) -> Result<&[u8], FaultKind>
     ensures value { Sees (λ x. decoded x.now) result (digits field.now) }
     ensures hex { IfOk result (λ x. is_hex x.now ≡ true) }
 {
@@ -70,7 +70,7 @@ fn literal_of(digits: &[u8]) -> Literal
 
 /// The bytes that at most 64 digits say. Takes no memory.
 #[tactic(auto, unfolding(crate::specs::Operands::literal))]
-pub fn literal(field: &[u8]) -> Result<Literal, AsmKind>
+pub fn literal(field: &[u8]) -> Result<Literal, FaultKind>
     ensures { result ≡ literal field.now }
 {
     Ok(literal_of(digits_to(64, field)?))

@@ -18,6 +18,7 @@ mod equality;
 mod fault;
 mod fields;
 mod hex_digits;
+mod keywords;
 mod literal;
 mod names;
 mod numbers;
@@ -28,12 +29,12 @@ mod register;
 mod scan;
 mod shapes;
 mod text;
-mod words;
 
 pub use directives::{count_of, init_of, limit_of, size_of};
-pub use fault::{AsmFault, AsmKind};
+pub use fault::{AsmFault, FaultKind};
 pub use fields::no_field;
 pub use hex_digits::{MAX_INIT_DIGITS, most_digits};
+pub use keywords::{exactly, mode, no_transaction, scope, scope_text};
 pub use literal::Literal;
 pub use names::lookup;
 pub use numbers::{function, number, within};
@@ -47,4 +48,3 @@ pub use shapes::{
     three_registers, two_places, two_registers, undo_action,
 };
 pub use text::{code_part, first_field, first_line, has_allowed};
-pub use words::{exactly, mode, no_transaction, scope, scope_text};

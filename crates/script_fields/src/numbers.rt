@@ -4,7 +4,7 @@ ghost use Rattle.std.specs.Prelude.{◌≡◌, ◌≤◌, ◌<◌, ◌^◌, IfOk
 ghost use Rattle.std.specs.List.{list_all};
 ghost use Rattle.script_fields.specs.Operands.{is_digit, is_number, value_of, number, within, function};
 
-use crate::fault::AsmKind;
+use crate::fault::FaultKind;
 
 fn has_digits(field: &[u8]) -> bool
     ensures { result ≡ list_all is_digit field.now }
@@ -32,7 +32,7 @@ fn value_of(field: &[u8]) -> Option<u64>
 
 /// A number of at most 64 bits: digits with no leading zero except `0` itself.
 #[tactic(auto, unfolding(crate::specs::Operands::number))]
-pub fn number(field: &[u8]) -> Result<u64, AsmKind>
+pub fn number(field: &[u8]) -> Result<u64, FaultKind>
     ensures { result ≡ number field.now }
 {
     // most numbers are one digit
@@ -40,16 +40,16 @@ pub fn number(field: &[u8]) -> Result<u64, AsmKind>
         return Ok(u64::from(field[0] - b'0'));
     }
     if !is_number(field) {
-        return Err(AsmKind::Operand);
+        return Err(FaultKind::Operand);
     }
     match value_of(field) {
         Some(n) => Ok(n),
-        None => Err(AsmKind::Range),
+        None => Err(FaultKind::Range),
     }
 }
 
 /// The number, where it is one of those from low to high.
-pub fn within(low: u64, high: u64, n: u64) -> Result<u64, AsmKind>
+pub fn within(low: u64, high: u64, n: u64) -> Result<u64, FaultKind>
     ensures value { result ≡ within low high n }
     ensures low { IfOk result (λ n. low ≤ n) }
     ensures high { IfOk result (λ n. n ≤ high) }
@@ -57,13 +57,13 @@ pub fn within(low: u64, high: u64, n: u64) -> Result<u64, AsmKind>
     if low <= n && n <= high {
         Ok(n)
     } else {
-        Err(AsmKind::Range)
+        Err(FaultKind::Range)
     }
 }
 
 /// The number of a function: at most 32 bits.
 #[tactic(auto, unfolding(crate::specs::Operands::function))]
-pub fn function(field: &[u8]) -> Result<u32, AsmKind>
+pub fn function(field: &[u8]) -> Result<u32, FaultKind>
     ensures { result ≡ function field.now }
 {
     Ok(within(0, u64::from(u32::MAX), number(field)?)? as u32)

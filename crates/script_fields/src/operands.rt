@@ -3,7 +3,7 @@
 ghost use Rattle.std.specs.Prelude.{◌≡◌};
 ghost use Rattle.script_fields.specs.Operands.{both, named, register, place};
 
-use crate::fault::AsmKind;
+use crate::fault::FaultKind;
 use crate::names::lookup;
 use crate::numbers::number;
 use crate::place::Place;
@@ -38,15 +38,15 @@ fn named(field: &[u8]) -> Option<Register>
 }
 
 /// `r0` to `r15`.
-pub fn register(field: &[u8]) -> Result<Register, AsmKind>
+pub fn register(field: &[u8]) -> Result<Register, FaultKind>
     ensures { result ≡ register field.now }
 {
-    named(field).ok_or(AsmKind::Operand)
+    named(field).ok_or(FaultKind::Operand)
 }
 
 /// A register, or else a number.
 #[tactic(auto, unfolding(crate::specs::Operands::place))]
-pub fn place(field: &[u8]) -> Result<Place, AsmKind>
+pub fn place(field: &[u8]) -> Result<Place, FaultKind>
     ensures { result ≡ place field.now }
 {
     match named(field) {
@@ -57,16 +57,16 @@ pub fn place(field: &[u8]) -> Result<Place, AsmKind>
 
 /// Two operands: a wrong form of either goes before a number beyond its limit.
 pub fn both<A: Drop, B: Drop>(
-    a: Result<A, AsmKind>,
-    b: Result<B, AsmKind>,
-) -> Result<(A, B), AsmKind>
+    a: Result<A, FaultKind>,
+    b: Result<B, FaultKind>,
+) -> Result<(A, B), FaultKind>
     ensures { result ≡ both a b }
 {
     match (a, b) {
         (Ok(a), Ok(b)) => Ok((a, b)),
         (Ok(_), Err(kind)) => Err(kind),
         (Err(kind), Ok(_)) => Err(kind),
-        (Err(AsmKind::Operand), Err(_)) => Err(AsmKind::Operand),
+        (Err(FaultKind::Operand), Err(_)) => Err(FaultKind::Operand),
         (Err(_), Err(kind)) => Err(kind),
     }
 }

@@ -4,7 +4,7 @@ ghost use Rattle.std.specs.Prelude.{◌≡◌, position};
 ghost use Rattle.script_fields.specs.Operands.{property, add_property, props, is_plus};
 ghost use Rattle.script_fields.specs.Properties.{has_property, with_property, props_text};
 
-use crate::fault::AsmKind;
+use crate::fault::FaultKind;
 use crate::names::lookup;
 use itm_types::Props;
 
@@ -60,12 +60,12 @@ fn with_property(props: Props, property: Property) -> Props
     }
 }
 
-fn add_property(props: Props, property: Option<Property>) -> Result<Props, AsmKind>
+fn add_property(props: Props, property: Option<Property>) -> Result<Props, FaultKind>
     ensures { result ≡ add_property props property }
 {
     match property {
         Some(property) if !has_property(props, property) => Ok(with_property(props, property)),
-        _ => Err(AsmKind::Operand),
+        _ => Err(FaultKind::Operand),
     }
 }
 
@@ -77,7 +77,7 @@ fn plus_at(text: &[u8]) -> Option<usize>
 
 /// The properties of a block: `-`, or names with `+` between them, none of them twice.
 #[tactic(auto, unfolding(crate::specs::Operands::props), using(crate::proofs::NamedProperties::name_added, crate::proofs::NamedProperties::name_refused, crate::proofs::NamedProperties::name_last))]
-pub fn props(field: &[u8]) -> Result<Props, AsmKind>
+pub fn props(field: &[u8]) -> Result<Props, FaultKind>
     ensures { result ≡ props field.now }
 {
     let mut props = Props {

@@ -4,21 +4,21 @@ ghost use Rattle.std.specs.Prelude.{◌≡◌};
 ghost use Rattle.script_fields.specs.Text.{fields};
 ghost use Rattle.script_fields.specs.Shapes.{one_register, two_registers, three_registers, register_number, register_literal, register_props, register_place, place_register, one_place, two_places, three_places, abort_scope, only_mode, commit_action, undo_action};
 
-use crate::fault::AsmKind;
+use crate::fault::FaultKind;
 use crate::fields::{one_field, three_fields, two_fields};
 use crate::hex_digits::literal;
+use crate::keywords::{mode, no_transaction, scope};
 use crate::literal::Literal;
 use crate::numbers::{function, number};
 use crate::operands::{both, place, register};
 use crate::place::Place;
 use crate::property::props;
 use crate::register::Register;
-use crate::words::{mode, no_transaction, scope};
 use itm_types::Props;
 
 /// A register.
 #[tactic(auto, unfolding(crate::specs::Shapes::one_register))]
-pub fn one_register(rest: &[u8]) -> Result<Register, AsmKind>
+pub fn one_register(rest: &[u8]) -> Result<Register, FaultKind>
     ensures { result ≡ one_register (fields rest.now) }
 {
     register(one_field(rest)?)
@@ -26,7 +26,7 @@ pub fn one_register(rest: &[u8]) -> Result<Register, AsmKind>
 
 /// Two registers.
 #[tactic(auto, unfolding(crate::specs::Shapes::two_registers))]
-pub fn two_registers(rest: &[u8]) -> Result<(Register, Register), AsmKind>
+pub fn two_registers(rest: &[u8]) -> Result<(Register, Register), FaultKind>
     ensures { result ≡ two_registers (fields rest.now) }
 {
     let (first, second) = two_fields(rest)?;
@@ -35,7 +35,7 @@ pub fn two_registers(rest: &[u8]) -> Result<(Register, Register), AsmKind>
 
 /// Three registers.
 #[tactic(auto, unfolding(crate::specs::Shapes::three_registers))]
-pub fn three_registers(rest: &[u8]) -> Result<(Register, (Register, Register)), AsmKind>
+pub fn three_registers(rest: &[u8]) -> Result<(Register, (Register, Register)), FaultKind>
     ensures { result ≡ three_registers (fields rest.now) }
 {
     let (first, second, third) = three_fields(rest)?;
@@ -44,7 +44,7 @@ pub fn three_registers(rest: &[u8]) -> Result<(Register, (Register, Register)), 
 
 /// A register, then a number.
 #[tactic(auto, unfolding(crate::specs::Shapes::register_number))]
-pub fn register_number(rest: &[u8]) -> Result<(Register, u64), AsmKind>
+pub fn register_number(rest: &[u8]) -> Result<(Register, u64), FaultKind>
     ensures { result ≡ register_number (fields rest.now) }
 {
     let (first, second) = two_fields(rest)?;
@@ -53,7 +53,7 @@ pub fn register_number(rest: &[u8]) -> Result<(Register, u64), AsmKind>
 
 /// A register, then bytes for it. Takes no memory.
 #[tactic(auto, unfolding(crate::specs::Shapes::register_literal))]
-pub fn register_literal(rest: &[u8]) -> Result<(Register, Literal), AsmKind>
+pub fn register_literal(rest: &[u8]) -> Result<(Register, Literal), FaultKind>
     ensures { result ≡ register_literal (fields rest.now) }
 {
     let (first, second) = two_fields(rest)?;
@@ -62,7 +62,7 @@ pub fn register_literal(rest: &[u8]) -> Result<(Register, Literal), AsmKind>
 
 /// A register, then the properties of a block.
 #[tactic(auto, unfolding(crate::specs::Shapes::register_props))]
-pub fn register_props(rest: &[u8]) -> Result<(Register, Props), AsmKind>
+pub fn register_props(rest: &[u8]) -> Result<(Register, Props), FaultKind>
     ensures { result ≡ register_props (fields rest.now) }
 {
     let (first, second) = two_fields(rest)?;
@@ -71,7 +71,7 @@ pub fn register_props(rest: &[u8]) -> Result<(Register, Props), AsmKind>
 
 /// A register, then a place.
 #[tactic(auto, unfolding(crate::specs::Shapes::register_place))]
-pub fn register_place(rest: &[u8]) -> Result<(Register, Place), AsmKind>
+pub fn register_place(rest: &[u8]) -> Result<(Register, Place), FaultKind>
     ensures { result ≡ register_place (fields rest.now) }
 {
     let (first, second) = two_fields(rest)?;
@@ -80,7 +80,7 @@ pub fn register_place(rest: &[u8]) -> Result<(Register, Place), AsmKind>
 
 /// A place, then a register.
 #[tactic(auto, unfolding(crate::specs::Shapes::place_register))]
-pub fn place_register(rest: &[u8]) -> Result<(Place, Register), AsmKind>
+pub fn place_register(rest: &[u8]) -> Result<(Place, Register), FaultKind>
     ensures { result ≡ place_register (fields rest.now) }
 {
     let (first, second) = two_fields(rest)?;
@@ -89,7 +89,7 @@ pub fn place_register(rest: &[u8]) -> Result<(Place, Register), AsmKind>
 
 /// A place.
 #[tactic(auto, unfolding(crate::specs::Shapes::one_place))]
-pub fn one_place(rest: &[u8]) -> Result<Place, AsmKind>
+pub fn one_place(rest: &[u8]) -> Result<Place, FaultKind>
     ensures { result ≡ one_place (fields rest.now) }
 {
     place(one_field(rest)?)
@@ -97,7 +97,7 @@ pub fn one_place(rest: &[u8]) -> Result<Place, AsmKind>
 
 /// Two places.
 #[tactic(auto, unfolding(crate::specs::Shapes::two_places))]
-pub fn two_places(rest: &[u8]) -> Result<(Place, Place), AsmKind>
+pub fn two_places(rest: &[u8]) -> Result<(Place, Place), FaultKind>
     ensures { result ≡ two_places (fields rest.now) }
 {
     let (first, second) = two_fields(rest)?;
@@ -106,7 +106,7 @@ pub fn two_places(rest: &[u8]) -> Result<(Place, Place), AsmKind>
 
 /// Three places.
 #[tactic(auto, unfolding(crate::specs::Shapes::three_places))]
-pub fn three_places(rest: &[u8]) -> Result<(Place, (Place, Place)), AsmKind>
+pub fn three_places(rest: &[u8]) -> Result<(Place, (Place, Place)), FaultKind>
     ensures { result ≡ three_places (fields rest.now) }
 {
     let (first, second, third) = three_fields(rest)?;
@@ -115,7 +115,7 @@ pub fn three_places(rest: &[u8]) -> Result<(Place, (Place, Place)), AsmKind>
 
 /// The scope of an abort: whether all blocks that are open are cancelled.
 #[tactic(auto, unfolding(crate::specs::Shapes::abort_scope))]
-pub fn abort_scope(rest: &[u8]) -> Result<bool, AsmKind>
+pub fn abort_scope(rest: &[u8]) -> Result<bool, FaultKind>
     ensures { result ≡ abort_scope (fields rest.now) }
 {
     scope(one_field(rest)?)
@@ -123,7 +123,7 @@ pub fn abort_scope(rest: &[u8]) -> Result<bool, AsmKind>
 
 /// The one mode that a transaction can be changed to.
 #[tactic(auto, unfolding(crate::specs::Shapes::only_mode))]
-pub fn only_mode(rest: &[u8]) -> Result<(), AsmKind>
+pub fn only_mode(rest: &[u8]) -> Result<(), FaultKind>
     ensures { result ≡ only_mode (fields rest.now) }
 {
     mode(one_field(rest)?)
@@ -131,7 +131,7 @@ pub fn only_mode(rest: &[u8]) -> Result<(), AsmKind>
 
 /// A function, the word for no transaction, and an argument.
 #[tactic(auto, unfolding(crate::specs::Shapes::commit_action))]
-pub fn commit_action(rest: &[u8]) -> Result<(u32, Place), AsmKind>
+pub fn commit_action(rest: &[u8]) -> Result<(u32, Place), FaultKind>
     ensures { result ≡ commit_action (fields rest.now) }
 {
     let (first, second, third) = three_fields(rest)?;
@@ -141,7 +141,7 @@ pub fn commit_action(rest: &[u8]) -> Result<(u32, Place), AsmKind>
 
 /// A function and an argument.
 #[tactic(auto, unfolding(crate::specs::Shapes::undo_action))]
-pub fn undo_action(rest: &[u8]) -> Result<(u32, Place), AsmKind>
+pub fn undo_action(rest: &[u8]) -> Result<(u32, Place), FaultKind>
     ensures { result ≡ undo_action (fields rest.now) }
 {
     let (first, second) = two_fields(rest)?;

@@ -1,21 +1,19 @@
 -- The code of a script's threads is nested: a line that would leave it otherwise is a fault.
 use Rattle.std.proofs.Common.{◌≡◌, ℕ, zero, suc, ◌+◌, ◌||◌, Bool, true, false, nat_eq, nat_le, nat_lt, if◌then◌else◌, List, [], ◌∷◌, ◌++◌, length, take, drop, replicate, Option, None, Some, Result, Ok, Err, refl, sym, ap, subst, ◌∙◌, inl, inr, slice_get}
 use Rattle.script_laws.proofs.Common.{Beginning, Group, Instruction, Leads, Level, Listing, Nests, Part, Shared, cases_Bool, codes_of, flat_map, group, innermost, innermost_line, list_all, or_parts, or_right, outer, repeat, second_part, stands_never, threads_of, within_never}
-use Rattle.std.proofs.lemmas.List.{append-nil}
-use Rattle.std.proofs.Math.Seq.{drop-append_seam, take-append_seam}
+use Rattle.std.{proofs.lemmas.List.append-nil, proofs.Math.Seq.drop-append_seam, proofs.Math.Seq.take-append_seam, specs.Str.Lines.lines}
 use Rattle.itm_types.specs.declared.limits.TheConstants.{MAX_ACTORS, MAX_ARENA, MAX_COMMITS, MAX_DEPTH, MAX_PATIENCE, MAX_RESTARTS, MAX_RETRIES}
 use Rattle.script_fields.specs.declared.fault.AsmFault.{AsmFault}
-use Rattle.script_fields.specs.declared.fault.AsmKind.TheVariants as kinds
+use Rattle.script_fields.specs.declared.fault.FaultKind.TheVariants as kinds
 use Rattle.script_fields.specs.Text.{fields, without_comment, is_allowed}
-use Rattle.std.specs.Str.Lines.{lines}
 use Rattle.script_program.specs.declared.limits.TheConstants.{MAX_INSTRUCTIONS, MAX_ITEMS, MAX_LEVELS, MAX_REPEATS, MAX_TEXT}
 use Rattle.script_program.specs.declared.instruction.Instruction.TheVariants as code
 use Rattle.script_program.specs.Schedules.{stray_of}
 use Rattle.script_program.specs.Sections.{Sections, begun, counted_again, expanded, instruction_total, parts_of, thread_total}
 use Rattle.script_asm.specs.declared.groups.Group.TheVariants as groups
 use Rattle.script_asm.specs.declared.state.State.{State}
-use Rattle.script_asm.specs.declared.words.Word.{Word}
-use Rattle.script_asm.specs.declared.words.Word.TheVariants as words
+use Rattle.script_asm.specs.declared.mnemonics.Word.{Word}
+use Rattle.script_asm.specs.declared.mnemonics.Word.TheVariants as words
 use Rattle.script_asm.specs.Assembly.{closed, complete, end_of, initial, lines_say, listing_of, meaning, named, obeyed, program_of, said, worded}
 use Rattle.script_asm.specs.Blocks.{added, again, begins, counted, ends, ends_block, ends_group, in_second_part, opened, place_of, repeated, repeats, run_code, turns_group, without_innermost}
 use Rattle.script_asm.specs.Directives.{laid_in, scheduled, threaded}
@@ -23,7 +21,7 @@ use Rattle.script_asm.specs.Readings.{◌>>=◌, at_line, fault}
 use Rattle.script_asm.specs.Code.{instruction_of}
 use Rattle.script_asm.specs.Items.{schedule_of}
 use Rattle.script_fields.specs.Shapes.{none, size_of, limit_of, init_of, count_of}
-use Rattle.script_asm.specs.Standing.{has_begun, may_stand}
+use Rattle.script_asm.specs.Placement.{has_begun, may_stand}
 use Rattle.script_asm.specs.Words.{word_of}
 use Rattle.script_laws.proofs.OpenCode.{leads_times, level_in, BeginsAt, Open, open_more, open_ended, live, live_never, live_all}
 

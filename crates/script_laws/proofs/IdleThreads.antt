@@ -1,14 +1,11 @@
 -- A thread of nested code that runs on a thread of its own comes back idle.
 use Rattle.std.proofs.Common.{◌≡◌, inl, inr, ℕ, ◌<◌, ◌≤◌, Bool, true, false, true≢false, if◌then◌else◌, List, [], length, Result, Ok, Err, refl, sym, ap, subst, ◌∙◌, arith}
 use Rattle.script_laws.proofs.Common.{Account, Core, Finished, Gating, GaveUp, Instruction, IsDeep, IsRow, Listing, NoMemory, Parts, Standing, StopsAt, Thread, Words, both, call_number, depth_of, ended_shut, false_from_ne_true, first_account, get_or_from_slice_get, in_transaction, is_held, opening, rolled_back, some_left, there_is, thread_laws, thread_rules, threads_of}
-use Rattle.norec_core.specs.Phases.{Idle}
-use Rattle.norec_core.specs.Undoing.{after_undoing}
-use Rattle.norec_core.proofs.Engines.HeldStores.{shut_revocable}
+use Rattle.norec_core.{specs.Phases.Idle, specs.Undoing.after_undoing, proofs.Engines.HeldStores.shut_revocable}
 use Rattle.shared_words.specs.declared.pass.Pass.{Pass}
 use Rattle.script_laws.specs.Assembled.{HasNestedCode}
 use Rattle.script_laws.specs.Idle.{ComeBackIdle, NoneStayHeld}
-use Rattle.report_rules.specs.Rows.{MadeCalls}
-use Rattle.report_rules.specs.Fresh.{code_of}
+use Rattle.report_rules.{specs.Rows.MadeCalls, specs.Fresh.code_of}
 use Rattle.tx_runs.specs.declared.ending.End.{End}
 use Rattle.worker_rules.specs.Worked.{Worked}
 use Rattle.script_laws.proofs.KeptThreads.{IsKept, course, first_kept, kept_all, some_open}

@@ -6,16 +6,10 @@ use Rattle.norec_core.proofs.Engines.Blocks.{none_inside}
 use Rattle.norec_core.specs.declared.answer.Answer.{Answer}
 use Rattle.norec_core.specs.declared.answer.Answer.TheVariants.{Busy, Committed, Conflict, Full, Reply, Restarted}
 use Rattle.shared_words.specs.Passes.{Owns, cells_of, commits_known, view_of}
-use Rattle.call_rules.specs.CallResults.{IsAnswered}
-use Rattle.call_rules.specs.Served.{Start}
-use Rattle.call_rules.specs.Ties.{Stands}
+use Rattle.call_rules.{specs.CallResults.IsAnswered, specs.Served.Start, specs.Ties.Stands, proofs.LaterViews.went_self}
 use Rattle.tx_attempts.proofs.LaterClocks.{outrun_none}
-use Rattle.run_rules.proofs.EngineReplies.{engine_may}
-use Rattle.run_rules.proofs.IrrevocableCalls.{goes_same}
-use Rattle.run_rules.proofs.Players.{nested_outside}
-use Rattle.worker_rules.specs.Progress.{Course, IsRunning}
-use Rattle.worker_rules.proofs.Machines.LastEvents.{IsLast, last_event}
-use Rattle.call_rules.proofs.LaterViews.{went_self}
+use Rattle.run_rules.{proofs.EngineReplies.engine_may, proofs.IrrevocableCalls.goes_same, proofs.Players.nested_outside}
+use Rattle.worker_rules.{specs.Progress.Course, specs.Progress.IsRunning, proofs.Machines.LastEvents.IsLast, proofs.Machines.LastEvents.last_event}
 use Rattle.script_laws.proofs.RepliedThreads.{HasLeft, deeper_begins, engine_fits, entered_may, one_deeper, open_room, replied_player, reserved_least, told_as_asked, tried_so}
 
 -- ## Before the first call

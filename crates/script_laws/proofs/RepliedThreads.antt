@@ -4,11 +4,8 @@ use Rattle.script_laws.proofs.Common.{Attempt, Begin, Call, Code, Core, Done, Ga
 use Rattle.itm_types.specs.Memory.{IsMemory}
 use Rattle.itm_types.specs.declared.call.Props.{Props}
 use Rattle.itm_types.specs.declared.call.Refusal.TheVariants.{NoIrrevocable, TooDeep}
-use Rattle.itm_model.specs.Machine.{or_else, reply, reply_unless, unless}
-use Rattle.itm_model.specs.State.{State}
-use Rattle.norec_core.specs.Effects.{recoded}
-use Rattle.norec_core.specs.Proceeds.{IsSettled}
-use Rattle.norec_core.specs.Stands.{stands_for}
+use Rattle.itm_model.{specs.Machine.or_else, specs.Machine.reply, specs.Machine.reply_unless, specs.Machine.unless, specs.State.State}
+use Rattle.norec_core.{specs.Effects.recoded, specs.Proceeds.IsSettled, specs.Stands.stands_for}
 use Rattle.tx_attempts.specs.Restarts.{ran_on}
 use Rattle.tx_runs.specs.Savepoints.{savepoints_after}
 use Rattle.run_rules.proofs.EngineStates.{stands_blocks}

@@ -15,12 +15,12 @@ pub use Rattle.script_asm.specs.Groups.{innermost, innermost_line, outer, second
 unfoldable pub use Rattle.script_asm.specs.Items.{events, item_of, schedule_of}
 pub use Rattle.script_asm.specs.Items.{is_times, items_of, take_of, thread_number}
 pub use Rattle.script_asm.specs.Readings.{at_line, fault, ◌>>=◌}
-pub use Rattle.script_asm.specs.Standing.{code_may_stand, has_begun, may_stand}
+pub use Rattle.script_asm.specs.Placement.{code_may_stand, has_begun, may_stand}
 unfoldable pub use Rattle.script_asm.specs.Words.{word_of}
 pub use Rattle.script_asm.specs.declared.groups.Beginning.{Beginning}
 pub use Rattle.script_asm.specs.declared.groups.Group.{Group}
 pub use Rattle.script_asm.specs.declared.state.State.{State}
-pub use Rattle.script_asm.specs.declared.words.Mnemonic.{Mnemonic}
+pub use Rattle.script_asm.specs.declared.mnemonics.Mnemonic.{Mnemonic}
 pub use Rattle.script_fields.proofs.FirstLines.{chosen, first_place}
 pub use Rattle.script_fields.proofs.Readings.{after_if, any_if, bind_if, both_if, choice_if, then_if}
 pub use Rattle.script_fields.proofs.SpelledFields.{all_append, all_parts, allowed_again, code_again, fields_again, joined_line, lines_again}
@@ -33,7 +33,7 @@ pub use Rattle.script_fields.specs.Shapes.{memory_size}
 pub use Rattle.script_fields.specs.Spelling.{IsLiteral, IsPlace}
 pub use Rattle.script_fields.specs.Text.{ended, fields, is_allowed, is_field_byte, IsField, IsLine, joined, without_comment}
 pub use Rattle.script_fields.specs.declared.fault.AsmFault.{AsmFault}
-pub use Rattle.script_fields.specs.declared.fault.AsmKind.{AsmKind}
+pub use Rattle.script_fields.specs.declared.fault.FaultKind.{FaultKind}
 pub use Rattle.script_fields.specs.declared.hex_digits.TheConstants.{MAX_INIT_DIGITS}
 unfoldable pub use Rattle.script_print.specs.Fields.{lines_text}
 pub use Rattle.script_print.specs.Fields.{field_text}

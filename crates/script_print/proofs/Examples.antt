@@ -12,8 +12,7 @@ use Rattle.script_fields.specs.declared.place.Place.TheVariants as places
 use Rattle.script_program.specs.declared.instruction.ArenaWidth.TheVariants as widths
 use Rattle.script_program.specs.declared.instruction.Instruction.TheVariants as code
 use Rattle.script_program.specs.declared.instruction.Operation.TheVariants as operations
-use Rattle.script_asm.proofs.OnLiterals.{on_literals}
-use Rattle.script_asm.proofs.WorkedTexts.{line}
+use Rattle.script_asm.{proofs.OnLiterals.on_literals, proofs.WorkedTexts.line}
 use Rattle.script_print.proofs.Printable.{IsSaid, IsPrintable}
 
 -- ## Two instructions

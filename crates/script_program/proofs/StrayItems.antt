@@ -1,11 +1,7 @@
 -- The first item whose thread is not below a number.
 use Rattle.std.proofs.Common.{◌≡◌, ℕ, ◌+◌, ◌<◌, ◌≤◌, Bool, cond, ltb, All, subst, List, [], length, take, drop, get_or, Some, None, refl, ap, ◌∙◌, arith, drop-cons, add-one}
-use Rattle.std.proofs.lemmas.Bool.{lt-ltb, le-ltb}
-use Rattle.std.proofs.lemmas.Grind.{common_steps}
-use Rattle.std.proofs.lemmas.List.Elements.{All-more}
-use Rattle.script_program.specs.declared.schedule.Item.{Item}
-use Rattle.script_program.specs.Listing.{thread_of}
-use Rattle.script_program.specs.Schedules.{stray_of}
+use Rattle.std.{proofs.lemmas.Bool.lt-ltb, proofs.lemmas.Bool.le-ltb, proofs.lemmas.Grind.common_steps, proofs.lemmas.List.Elements.All-more}
+use Rattle.script_program.{specs.declared.schedule.Item.Item, specs.Listing.thread_of, specs.Schedules.stray_of}
 
 here : (n : ℕ) (items : List Item) (lines : List ℕ) (i : ℕ) (d : Item) → i < length items → i < length lines
     → stray_of n (drop i items) (drop i lines) ≡ cond (ltb (thread_of (get_or items i d)) n) (stray_of n (drop (i + 1) items) (drop (i + 1) lines)) (Some (get_or lines i 0))

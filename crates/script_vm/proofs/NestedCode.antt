@@ -63,46 +63,28 @@ record Passed (next : Stage) (i : Instruction) (more : List Instruction) (levels
   same : blocks_in around ≡ blocks_in outer
   past : blocks_in now ≡ open_past i (blocks_in levels)
 
-in_block : (stage : Stage) (more : List Instruction) (levels outer inner : List Level) → levels ≡ block ∷ inner → Nests more inner → Stands stage inner outer → Passed stage code.Commit more levels outer
-in_block stage more levels outer inner e n s = record { now = inner; around = outer; nests = n; stands = s; same = refl; past = (let same = ap blocks_in e in omega arith) }
+-- the group that is passed over ends
+group_ended : (more : List Instruction) (levels outer : List Level) (x : Nests (code.EndIf ∷ more) levels) → Around levels zero outer → Passed Runs code.EndIf more levels outer
+group_ended more levels outer x a = record { now = x.0; around = x.0; nests = x.2; stands = refl; same = ap blocks_in (subst (λ (l : List Level). Around l zero outer) x.1 a); past = sym (ap blocks_in x.1) }
 
-pass_else : (n : ℕ) (i : Instruction) (more : List Instruction) (levels outer : List Level) → Nests (i ∷ more) levels → Around levels n outer → Passed (stage_past (ToElse n) i) i more levels outer
-pass_else n (code.Begin props r) more levels outer x a = record { now = block ∷ levels; around = outer; nests = x; stands = by_groups n a; same = refl; past = refl }
-  where
-    by_groups : (n : ℕ) → Around levels n outer → Stands (stage_past (ToElse n) (code.Begin props r)) (block ∷ levels) outer
-    by_groups zero a = a
-    by_groups (suc n) a = a
-pass_else n code.Commit more levels outer x a = by_groups n (subst (λ (l : List Level). Around l n outer) x.1 a)
-  where
-    by_groups : (n : ℕ) → Around (block ∷ x.0) n outer → Passed (stage_past (ToElse n) code.Commit) code.Commit more levels outer
-    by_groups zero a = in_block (ToElse zero) more levels outer x.0 x.1 x.2 a
-    by_groups (suc n) a = in_block (ToElse (suc n)) more levels outer x.0 x.1 x.2 a
-pass_else n (code.IfNotZero r) more levels outer x a = record { now = group ∷ levels; around = outer; nests = x; stands = a; same = refl; past = refl }
-pass_else zero code.Else more levels outer x a = record { now = levels; around = levels; nests = x.2; stands = refl; same = ap blocks_in x.1 ∙ ap blocks_in (subst (λ (l : List Level). Around l zero outer) x.1 a); past = refl }
-pass_else (suc n) code.Else more levels outer x a = record { now = levels; around = outer; nests = x.2; stands = a; same = refl; past = refl }
-pass_else zero code.EndIf more levels outer x a = record { now = x.0; around = x.0; nests = x.2; stands = refl; same = ap blocks_in (subst (λ (l : List Level). Around l zero outer) x.1 a); past = sym (ap blocks_in x.1) }
-pass_else (suc n) code.EndIf more levels outer x a = record { now = x.0; around = outer; nests = x.2; stands = subst (λ (l : List Level). Around l (suc n) outer) x.1 a; same = refl; past = sym (ap blocks_in x.1) }
-pass_else zero i more levels outer x a = record { now = levels; around = outer; nests = x; stands = a; same = refl; past = refl }
-pass_else (suc n) i more levels outer x a = record { now = levels; around = outer; nests = x; stands = a; same = refl; past = refl }
+-- what is passed over: up to an `else` or to the end of a group
+abbrev Passes : Stage → Type 0
+Passes Runs = ⊥
+Passes stage = Unit {0}
 
-pass_end : (n : ℕ) (i : Instruction) (more : List Instruction) (levels outer : List Level) → Nests (i ∷ more) levels → Around levels n outer → Passed (stage_past (ToEnd n) i) i more levels outer
-pass_end n (code.Begin props r) more levels outer x a = record { now = block ∷ levels; around = outer; nests = x; stands = by_groups n a; same = refl; past = refl }
-  where
-    by_groups : (n : ℕ) → Around levels n outer → Stands (stage_past (ToEnd n) (code.Begin props r)) (block ∷ levels) outer
-    by_groups zero a = a
-    by_groups (suc n) a = a
-pass_end n code.Commit more levels outer x a = by_groups n (subst (λ (l : List Level). Around l n outer) x.1 a)
-  where
-    by_groups : (n : ℕ) → Around (block ∷ x.0) n outer → Passed (stage_past (ToEnd n) code.Commit) code.Commit more levels outer
-    by_groups zero a = in_block (ToEnd zero) more levels outer x.0 x.1 x.2 a
-    by_groups (suc n) a = in_block (ToEnd (suc n)) more levels outer x.0 x.1 x.2 a
-pass_end n (code.IfNotZero r) more levels outer x a = record { now = group ∷ levels; around = outer; nests = x; stands = a; same = refl; past = refl }
-pass_end zero code.Else more levels outer x a = record { now = levels; around = outer; nests = x.2; stands = a; same = refl; past = refl }
-pass_end (suc n) code.Else more levels outer x a = record { now = levels; around = outer; nests = x.2; stands = a; same = refl; past = refl }
-pass_end zero code.EndIf more levels outer x a = record { now = x.0; around = x.0; nests = x.2; stands = refl; same = ap blocks_in (subst (λ (l : List Level). Around l zero outer) x.1 a); past = sym (ap blocks_in x.1) }
-pass_end (suc n) code.EndIf more levels outer x a = record { now = x.0; around = outer; nests = x.2; stands = subst (λ (l : List Level). Around l (suc n) outer) x.1 a; same = refl; past = sym (ap blocks_in x.1) }
-pass_end zero i more levels outer x a = record { now = levels; around = outer; nests = x; stands = a; same = refl; past = refl }
-pass_end (suc n) i more levels outer x a = record { now = levels; around = outer; nests = x; stands = a; same = refl; past = refl }
+passed : (stage : Stage) (i : Instruction) (more : List Instruction) (levels outer : List Level) → Passes stage → Nests (i ∷ more) levels → Stands stage levels outer → Passed (stage_past stage i) i more levels outer
+passed (ToElse zero) code.Else more levels outer p x a = record { now = levels; around = levels; nests = x.2; stands = refl; same = ap blocks_in x.1 ∙ ap blocks_in (subst (λ (l : List Level). Around l zero outer) x.1 a); past = refl }
+passed (ToElse zero) code.EndIf more levels outer p x a = group_ended more levels outer x a
+passed (ToEnd zero) code.EndIf more levels outer p x a = group_ended more levels outer x a
+passed (ToElse (suc n)) code.EndIf more levels outer p x a = record { now = x.0; around = outer; nests = x.2; stands = subst (λ (l : List Level). Around l (suc n) outer) x.1 a; same = refl; past = sym (ap blocks_in x.1) }
+passed (ToEnd (suc n)) code.EndIf more levels outer p x a = record { now = x.0; around = outer; nests = x.2; stands = subst (λ (l : List Level). Around l (suc n) outer) x.1 a; same = refl; past = sym (ap blocks_in x.1) }
+passed Runs i more levels outer p x a = absurd p
+passed stage code.Else more levels outer p x a = record { now = levels; around = outer; nests = x.2; stands = a; same = refl; past = refl }
+passed stage (code.IfNotZero r) more levels outer p x a = record { now = group ∷ levels; around = outer; nests = x; stands = a; same = refl; past = refl }
+passed stage (code.Begin props r) more levels outer p x a = record { now = block ∷ levels; around = outer; nests = x; stands = a; same = refl; past = refl }
+passed stage code.Commit more levels outer p x a =
+    record { now = x.0; around = outer; nests = x.2; stands = subst (λ (l : List Level). Stands stage l outer) x.1 a; same = refl; past = (let same = ap blocks_in x.1 in omega arith) }
+passed stage i more levels outer p x a = record { now = levels; around = outer; nests = x; stands = a; same = refl; past = refl }
 
 -- the code from the next call on, with so many blocks open
 pub record Settles (blocks most : ℕ) (rest : List Instruction) : Type 0 where
@@ -153,12 +135,9 @@ worked_settles Runs registers (code.Else ∷ more) levels outer x s =
 worked_settles Runs registers (code.EndIf ∷ more) levels outer x s =
     settles_on code.EndIf more _ levels x.0 outer x.0 (ap blocks_in (sym x.1 ∙ s)) (sym (ap blocks_in x.1)) (stands_fewer Runs levels outer s) (worked_settles Runs registers more x.0 x.0 x.2 refl)
 worked_settles Runs registers (call ∷ more) levels outer x s = record { levels = levels; nests = x; blocks_are = ap blocks_in s; fewer = λ some. (let same = ap (λ (l : List Level). room (blocks_in l) (call ∷ more)) s in omega arith) }
-worked_settles (ToElse n) registers (i ∷ more) levels outer x s =
-    let p = pass_else n i more levels outer x s in
-    settles_on i more _ levels p.now outer p.around p.same p.past (around_fewer levels n outer s) (worked_settles (stage_past (ToElse n) i) registers more p.now p.around p.nests p.stands)
-worked_settles (ToEnd n) registers (i ∷ more) levels outer x s =
-    let p = pass_end n i more levels outer x s in
-    settles_on i more _ levels p.now outer p.around p.same p.past (around_fewer levels n outer s) (worked_settles (stage_past (ToEnd n) i) registers more p.now p.around p.nests p.stands)
+worked_settles stage registers (i ∷ more) levels outer x s =
+    let p = passed stage i more levels outer tt x s in
+    settles_on i more _ levels p.now outer p.around p.same p.past (stands_fewer stage levels outer s) (worked_settles (stage_past stage i) registers more p.now p.around p.nests p.stands)
 
 -- ## The ends of blocks
 

@@ -1,6 +1,6 @@
 -- A thread whose code is nested makes no more calls up to its outermost commit than it tells.
-use Rattle.std.proofs.Common.{◌≡◌, ℕ, zero, suc, ◌+◌, ◌-◌, ◌<◌, ◌≤◌, Bool, true, false, List, [], ◌∷◌, ◌++◌, length, None, Some, ◌⊎◌, inl, inr, true≢false, if◌then◌else◌, refl, sym, ap, subst, ◌∙◌, arith, slice_index_or, take}
-use Rattle.script_vm.proofs.Common.{Block, Bytes, Code, Done, Instruction, Level, Nests, Refused, Register, Reply, Runs, Stage, Thread, ToEnd, answered, answered_at, at_block, back_to, begun, block, blocks_in, bytes_at, call_at, cancelled, cancelled_in, chosen_by, closed, computed, depth_of, ended, entered, goes_on, innermost, length-closed, ltb-false, may_open, next_call, no_block, none_is_no_call, number_at, one_longer, open_past, opening, past_block, restarted, room, same_call, settled, stage_past, stopped, told, took, with_bytes, with_number, worked, zeros}
+use Rattle.std.proofs.Common.{◌≡◌, ℕ, zero, suc, ◌+◌, ◌-◌, ◌<◌, ◌≤◌, Bool, true, false, List, [], ◌∷◌, ◌++◌, length, None, Some, ◌⊎◌, inl, inr, true≢false, if◌then◌else◌, refl, sym, ap, subst, ◌∙◌, arith, rules, slice_index_or, take}
+use Rattle.script_vm.proofs.Common.{Block, Bytes, Code, Done, Instruction, Level, Nests, Refused, Register, Reply, Runs, Stage, Thread, answered, answered_at, at_block, back_to, begun, block, blocks_in, call_at, cancelled, cancelled_in, closed, depth_of, ended, entered, goes_on, innermost, length-closed, ltb-false, may_open, next_call, no_block, none_is_no_call, one_longer, open_past, opening, past_block, restarted, room, same_call, settled, stage_past, stopped, told, took, with_number, worked, zeros}
 use Rattle.itm_types.specs.declared.call.Call.{Call}
 use Rattle.itm_types.specs.declared.call.Call.TheVariants as calls
 use Rattle.tx_player.specs.Replies.{MayReply}
@@ -47,13 +47,9 @@ left t = room (depth_of t) t.rest
 worked_at_call : (stage : Stage) (registers : List (List ℕ)) (rest : List Instruction) → IsAtCall (worked stage registers rest).1
 worked_at_call stage registers [] = tt
 worked_at_call Runs registers (code.Set to n ∷ more) = worked_at_call Runs (with_number registers to n) more
-worked_at_call Runs registers (code.Bytes to literal ∷ more) = worked_at_call Runs (with_bytes registers to literal.bytes) more
-worked_at_call Runs registers (code.Move to from ∷ more) = worked_at_call Runs (with_bytes registers to (bytes_at registers from)) more
-worked_at_call Runs registers (code.Compute operation to a b ∷ more) = worked_at_call Runs (with_number registers to (computed operation (number_at registers a) (number_at registers b))) more
-worked_at_call Runs registers (code.IfNotZero r ∷ more) = worked_at_call (chosen_by (number_at registers r)) registers more
-worked_at_call Runs registers (code.Else ∷ more) = worked_at_call (ToEnd 0) registers more
-worked_at_call Runs registers (code.EndIf ∷ more) = worked_at_call Runs registers more
-worked_at_call Runs registers (call ∷ more) = tt
+worked_at_call Runs registers (i ∷ more) =
+    let next : (s : Stage) (r : List (List ℕ)) → IsAtCall (worked s r more).1 = λ s r. worked_at_call s r more in
+    first_of (search rules, search (rules, next))
 worked_at_call stage registers (i ∷ more) = worked_at_call (stage_past stage i) registers more
 
 -- it goes on at such code
@@ -108,15 +104,11 @@ module _ (deepest : ℕ) (registers : List (List ℕ)) (rest : List Instruction)
 
     took_goes : (i : Instruction) (x : Register) (r : Reply) → Nests more levels → open_past i (length blocks) ≡ length blocks → StaysNested i (length blocks) more (took at_blocks x more r)
     took_goes i x (Bytes v) n e = plain i _ n e
-    took_goes i x Done n e = plain i _ n e
-    took_goes i x (Code k) n e = plain i _ n e
-    took_goes i x (Refused f) n e = plain i _ n e
+    took_goes i x r n e = plain i _ n e
 
     told_goes : (i : Instruction) (x : Register) (r : Reply) → Nests more levels → open_past i (length blocks) ≡ length blocks → StaysNested i (length blocks) more (told at_blocks x more r)
     told_goes i x (Code k) n e = plain i _ n e
-    told_goes i x Done n e = plain i _ n e
-    told_goes i x (Bytes v) n e = plain i _ n e
-    told_goes i x (Refused f) n e = plain i _ n e
+    told_goes i x r n e = plain i _ n e
 
     entered_start : (b : Block) → Nests b.rest levels → IsAtCall b.rest → (all : List Block) → all ≡ blocks → HasNestedStart (all ++ b ∷ [])
     entered_start b n at [] e = (levels, n, same ∙ ap length (sym e), at)
@@ -132,9 +124,6 @@ module _ (deepest : ℕ) (registers : List (List ℕ)) (rest : List Instruction)
         goes_nested t regs (past_block k more) p.0 p.1 (let all = p.2 in omega arith) from
 
     cancelled_goes : (outer : Bool) (r : Reply) → Nests more levels → StaysNested (code.Abort outer) (length blocks) more (cancelled at_blocks outer more r)
-    cancelled_goes outer Done x = plain (code.Abort outer) _ x refl
-    cancelled_goes outer (Bytes v) x = plain (code.Abort outer) _ x refl
-    cancelled_goes outer (Refused f) x = plain (code.Abort outer) _ x refl
     cancelled_goes outer (Code n) x = by_blocks outer blocks refl
       where
         by_blocks : (outer : Bool) (all : List Block) → all ≡ blocks → StaysNested (code.Abort outer) (length blocks) more (cancelled_in at_blocks outer more n all)
@@ -148,13 +137,10 @@ module _ (deepest : ℕ) (registers : List (List ℕ)) (rest : List Instruction)
             let t : Thread = record at_blocks { blocks = [] } in
             let depth : length (b ∷ inner) + 0 ≡ length blocks = (let all = ap length e in omega arith) in
             goes_past (code.Abort true) (length blocks) (length (b ∷ inner)) more _ (past_one (with_number b.registers b.code n) t (length (b ∷ inner)) x depth tt) depth
+    cancelled_goes outer r x = plain (code.Abort outer) _ x refl
 
 answered_goes : (deepest : ℕ) (registers : List (List ℕ)) (i : Instruction) (more : List Instruction) (blocks : List Block) (start : HasNestedStart blocks) (levels : List Level) → Nests (i ∷ more) levels → blocks_in levels ≡ length blocks → (c : Call) (r : Reply)
     → call_at registers (length blocks) (i ∷ more) ≡ Some c → MayReply (length blocks) c r → StaysNested i (length blocks) more (answered_at (at_blocks deepest registers (i ∷ more) blocks start) (i ∷ more) r)
-answered_goes deepest registers (code.Set to n) more blocks start levels x same c r e may = absurd (none_is_no_call c e)
-answered_goes deepest registers (code.Bytes to literal) more blocks start levels x same c r e may = absurd (none_is_no_call c e)
-answered_goes deepest registers (code.Move to from) more blocks start levels x same c r e may = absurd (none_is_no_call c e)
-answered_goes deepest registers (code.Compute operation to y z) more blocks start levels x same c r e may = absurd (none_is_no_call c e)
 answered_goes deepest registers (code.IfNotZero y) more blocks start levels x same c r e may = absurd (none_is_no_call c e)
 answered_goes deepest registers code.Else more blocks start levels x same c r e may = absurd (none_is_no_call c e)
 answered_goes deepest registers code.EndIf more blocks start levels x same c r e may = absurd (none_is_no_call c e)
@@ -195,7 +181,7 @@ answered_goes deepest registers code.Commit more blocks start levels x same c r 
     subst (λ (y : Reply). StaysNested code.Commit (length blocks) more (ended t more y)) (sym done)
     (goes_as code.Commit (length blocks) more _
     (goes_nested (record t { blocks = closed blocks }) registers more x.0 x.2 (let one = ap blocks_in x.1 in let fewer = length-closed blocks in omega arith) (closed_start blocks start)) (length-closed blocks))
-answered_goes deepest registers call more blocks start levels x same c r e may = plain deepest registers (call ∷ more) blocks start more levels same call registers x refl
+answered_goes deepest registers i more blocks start levels x same c r e may = first_of (cc, search (plain deepest registers (i ∷ more) blocks start more levels same i registers x refl))
 
 -- the room that it tells is what is left of its blocks
 told_left : (registers : List (List ℕ)) (i : Instruction) (more : List Instruction) (d : ℕ) (c : Call) (n : ℕ) → call_at registers d (i ∷ more) ≡ Some c → carried_room c ≡ Some n → room (open_past i d) more ≡ n
@@ -255,13 +241,7 @@ opening_nested deepest rest x = (goes_nested (record { rest = rest; registers = 
 is_a_call : (registers : List (List ℕ)) (d : ℕ) (rest : List Instruction) → IsAtCall rest → call_at registers d rest ≡ None → rest ≡ []
 is_a_call registers d [] at e = refl
 is_a_call registers d (code.Set to n ∷ more) at e = absurd at
-is_a_call registers d (code.Bytes to literal ∷ more) at e = absurd at
-is_a_call registers d (code.Move to from ∷ more) at e = absurd at
-is_a_call registers d (code.Compute operation to x y ∷ more) at e = absurd at
-is_a_call registers d (code.IfNotZero x ∷ more) at e = absurd at
-is_a_call registers d (code.Else ∷ more) at e = absurd at
-is_a_call registers d (code.EndIf ∷ more) at e = absurd at
-is_a_call registers d (call ∷ more) at e = absurd (cc)
+is_a_call registers d (i ∷ more) at e = first_of (cc, search rules)
 
 -- has no block open, where no more are open than may be
 pub ended_shut : (t : Thread) → IsNested t → depth_of t ≤ t.deepest → next_call t ≡ None → depth_of t ≡ 0
@@ -277,48 +257,22 @@ ended_shut t nested few e = by_code nested.code
 -- ## How many may be open stays
 
 answered_deepest_at : (t : Thread) (rest : List Instruction) (r : Reply) → (answered_at t rest r).deepest ≡ t.deepest
-answered_deepest_at t [] r = refl
-answered_deepest_at t (code.Set to n ∷ more) r = refl
-answered_deepest_at t (code.Bytes to literal ∷ more) r = refl
-answered_deepest_at t (code.Move to from ∷ more) r = refl
-answered_deepest_at t (code.Compute operation to x y ∷ more) r = refl
-answered_deepest_at t (code.IfNotZero x ∷ more) r = refl
-answered_deepest_at t (code.Else ∷ more) r = refl
-answered_deepest_at t (code.EndIf ∷ more) r = refl
 answered_deepest_at t (code.Load width to at ∷ more) (Bytes v) = refl
-answered_deepest_at t (code.Load width to at ∷ more) Done = refl
-answered_deepest_at t (code.Load width to at ∷ more) (Code n) = refl
-answered_deepest_at t (code.Load width to at ∷ more) (Refused f) = refl
 answered_deepest_at t (code.Read hint width to at ∷ more) (Bytes v) = refl
-answered_deepest_at t (code.Read hint width to at ∷ more) Done = refl
-answered_deepest_at t (code.Read hint width to at ∷ more) (Code n) = refl
-answered_deepest_at t (code.Read hint width to at ∷ more) (Refused f) = refl
+answered_deepest_at t (code.InTransaction to ∷ more) (Code n) = refl
+answered_deepest_at t (code.Commit ∷ more) Done = refl
 answered_deepest_at t (code.Begin props to ∷ more) (Code n) = by_room (may_open t.deepest t.blocks)
   where
     by_room : (b : Bool) → (if b then entered t to more n else stopped t).deepest ≡ t.deepest
     by_room true = refl
     by_room false = refl
-answered_deepest_at t (code.Begin props to ∷ more) (Refused f) = refl
-answered_deepest_at t (code.Begin props to ∷ more) Done = refl
-answered_deepest_at t (code.Begin props to ∷ more) (Bytes v) = refl
-answered_deepest_at t (code.Commit ∷ more) Done = refl
-answered_deepest_at t (code.Commit ∷ more) (Bytes v) = refl
-answered_deepest_at t (code.Commit ∷ more) (Code n) = refl
-answered_deepest_at t (code.Commit ∷ more) (Refused f) = refl
 answered_deepest_at t (code.Abort outer ∷ more) (Code n) = by_blocks outer t.blocks
   where
     by_blocks : (outer : Bool) (all : List Block) → (cancelled_in t outer more n all).deepest ≡ t.deepest
     by_blocks outer [] = refl
     by_blocks true (b ∷ inner) = refl
     by_blocks false (b ∷ inner) = refl
-answered_deepest_at t (code.Abort outer ∷ more) Done = refl
-answered_deepest_at t (code.Abort outer ∷ more) (Bytes v) = refl
-answered_deepest_at t (code.Abort outer ∷ more) (Refused f) = refl
-answered_deepest_at t (code.InTransaction to ∷ more) (Code n) = refl
-answered_deepest_at t (code.InTransaction to ∷ more) Done = refl
-answered_deepest_at t (code.InTransaction to ∷ more) (Bytes v) = refl
-answered_deepest_at t (code.InTransaction to ∷ more) (Refused f) = refl
-answered_deepest_at t (call ∷ more) r = refl
+answered_deepest_at t rest r = refl
 
 pub answered_deepest : (t : Thread) (r : Reply) → (answered t r).deepest ≡ t.deepest
 answered_deepest t r = answered_deepest_at t t.rest r

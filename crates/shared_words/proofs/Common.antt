@@ -16,7 +16,7 @@ pub use Rattle.shared_words.specs.Moves.{Moves}
 pub use Rattle.shared_words.specs.Passes.{cells_of, IsOver, view_of}
 pub use Rattle.shared_words.specs.Rule.{AreGood, changes, exchanges, Held, loads, settled, stores}
 pub use Rattle.shared_words.specs.Steps.{CanTake, cell_of, cells_after, finds, Joined, Lawful, Loaded, Looked, Sees, StepTells, Took, ValueFits, WasFound}
-pub use Rattle.shared_words.specs.Views.{both, cut_left, cut_right, freed, held, held_cells, holders, longer, looked, noted, opening, placed, read, shares, spent, times, took, wrote}
+pub use Rattle.shared_words.specs.Views.{both, cut_left, cut_right, freed, held_words, held_cells, holders, longer, looked, noted, opening, placed, read, shares, spent, times, took, wrote}
 pub use Rattle.shared_words.specs.declared.view.View.{View}
 pub use Rattle.std.proofs.alloc.Calls.{Goes-blank, handle_tells}
 pub use Rattle.std.proofs.lemmas.List.{length-take-le, nil_from_length, take-append-le, take_all, take_at, take_more, with_items_is}

@@ -1,9 +1,10 @@
 -- Each kind of step keeps what is true of the cells and the views.
 use Rattle.std.proofs.Common.{◌≡◌, ℕ, eqb, suc, ◌+◌, ◌*◌, ◌/◌, ◌%◌, ◌^◌, ◌<◌, ◌≤◌, ◌≢◌, Bool, true, false, cond, List, [], ◌∷◌, ◌++◌, length, get_or, set, sym, refl, ap, ◌∙◌, subst, ⊎_elim, arith, le_refl, append-nil, length-append, eq-eqb, ne_eqb}
-use Rattle.shared_words.proofs.Common.{AllMet, CanTake, Fits, Good, Looked, Sees, Stand, StartsWith, Step, StoresFit, Took, View, after, clock_of, dite, freed, get_elem?, held, holders, looked, noted, placed, read, shares, some, stored, sum_by_push, times, took, wrote, ℕ_discrete}
-use Rattle.shared_words.proofs.MetWords.{Log, all_grows, all_snoc, grows_store, grows_commit, met_now}
+use Rattle.shared_words.proofs.Common.{AllMet, CanTake, Fits, Good, Looked, Sees, Stand, StartsWith, Step, StoresFit, Took, View, after, clock_of, dite, freed, get_elem?, held_words, holders, looked, noted, placed, read, shares, some, stored, sum_by_push, times, took, wrote, ℕ_discrete, Met}
+use Rattle.shared_words.proofs.MetWords.{Log, all_grows, grows_store, grows_commit, met_now}
 use Rattle.shared_words.proofs.ListPlaces.{at_set, weigh_set, weigh_le, weigh_two, starts_self, starts_longer, starts_le, starts_trans}
-use Rattle.shared_words.proofs.StoredWords.{stored_snoc, after_snoc, stand_snoc, stores_snoc, commits_snoc}
+use Rattle.shared_words.proofs.StoredWords.{stored_snoc, after_snoc, stand_snoc}
+use Rattle.itm_types.proofs.Elements.{all_append}
 
 abbrev pub hold : View → ℕ
 hold v = cond v.holds 1 0
@@ -115,18 +116,18 @@ module _ (cells : List ℕ) (views : List View) (g : Good cells views) where
         let stands : v.clock ≡ clock → clock % 2 ≡ 0 → Stand (after g.base g.log) (v.fresh ++ (k, n) ∷ []) = λ same even. (let one = g.one in let none : holders views ≡ 0 = omega arith in
         let is' : n ≡ get_or (after g.base g.log) k 0 = is ∙ ap (λ (p : List (ℕ × ℕ)). get_or (stored (after g.base g.log) p) k 0) (g.settled none) in
         stand_snoc (after g.base g.log) v.fresh k n (mine_fits.stands same even) is') in
-        let met = all_snoc g.base (g.log ++ g.pending ∷ []) v.met (k, n, length v.seen) mine_fits.met (met_now g.base g.log g.pending k n (length v.seen) (starts_le g.log v.seen mine_fits.begins) is) in
+        let met = all_append (Met g.base (g.log ++ g.pending ∷ [])) v.met ((k, n, length v.seen) ∷ []) mine_fits.met (met_now g.base g.log g.pending k n (length v.seen) (starts_le g.log v.seen mine_fits.begins) is, tt) in
         quiet id v (read v st k n) at refl refl refl (assumption (stands, met, mine_fits))
 
     -- a word is loaded by the holder, which learns nothing new
     pub counts : (st : Step) (n : ℕ) → Good cells (set views id (noted v st n))
     counts st n = quiet id v (noted v st n) at refl refl refl (assumption mine_fits)
 
-    pub held_word : (k : ℕ) → 0 < v.share → v.holds ≡ true → get_or cells (suc k) 0 ≡ get_or (held v) k 0
+    pub held_word : (k : ℕ) → 0 < v.share → v.holds ≡ true → get_or cells (suc k) 0 ≡ get_or (held_words v) k 0
     held_word k alive h =
         let f = mine_fits.holding h in
         let b : v.base ≡ g.base = mine_fits.base_is alive in
-        let e : held v ≡ stored (after g.base g.log) g.pending = λ i. stored (after (b i) (f.0 i)) (f.1 i) in
+        let e : held_words v ≡ stored (after g.base g.log) g.pending = λ i. stored (after (b i) (f.0 i)) (f.1 i) in
         ap (λ (l : List ℕ). get_or l (suc k) 0) g.cells_are ∙ sym (ap (λ (l : List ℕ). get_or l k 0) e)
 
     others_idle : v.holds ≡ true → (j : ℕ) (u : View) → j ≢ id → get_elem? views j ≡ some u → u.holds ≡ true → ⊥
@@ -192,7 +193,7 @@ module _ (cells : List ℕ) (views : List View) (g : Good cells views) where
         let holding : v.holds ≡ true → (v.seen ≡ g.log) × (v.done ++ (k, x) ∷ [] ≡ more) × (v.clock ≡ 2 * length g.log) = λ _. (f.0, ap (λ (l : List (ℕ × ℕ)). l ++ (k, x) ∷ []) f.1, f.2) in
         seen_by (set cells (suc k) x) more (set views id w) clock
         (ap (λ (l : List ℕ). set l (suc k) x) g.cells_are ∙ ap (λ (l : List ℕ). clock ∷ l) (sym (stored_snoc (after g.base g.log) g.pending (k, x))))
-        (ap (λ (n : ℕ). 2 * length g.log + n) (sym same)) (omega arith) (λ z. absurd (omega arith)) (stores_snoc g.pending k x g.pending_fits small) t.0 t.1
+        (ap (λ (n : ℕ). 2 * length g.log + n) (sym same)) (omega arith) (λ z. absurd (omega arith)) (all_append _ g.pending ((k, x) ∷ []) g.pending_fits (small, tt)) t.0 t.1
         (each_set (Fits g.base g.log more clock) views id w (assumption (holding, met v mine_fits.met, mine_fits))
         (λ j u other e.
         (let o = g.each j u e in
@@ -263,6 +264,6 @@ module _ (cells : List ℕ) (views : List View) (g : Good cells views) where
           placed_none = λ p l. (let past : length g.log < p = omega arith in let z : cond {A = ℕ} (eqb (length g.log) p) 1 0 ≡ 0 = tick_past (length g.log) p past in let q = pl p in let o : placed p views ≡ 0 = g.placed_none p (omega arith) in let r : placed p (set views id w) ≡ 0 = omega arith in r);
           whole = omega arith;
           base_fits = g.base_fits;
-          log_fits = commits_snoc g.log g.pending g.log_fits g.pending_fits;
+          log_fits = all_append StoresFit g.log (g.pending ∷ []) g.log_fits (g.pending_fits, tt);
           pending_fits = tt;
         }

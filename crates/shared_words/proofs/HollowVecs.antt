@@ -1,7 +1,7 @@
 -- A vector is its cells and the way back. Assumes `Logic`.
 use Rattle.std.proofs.Common.{◌≡◌, ℕ, ◌+◌, ◌*◌, ◌^◌, ◌<◌, List, [], ◌∷◌, length, true, refl, sym, arith, Vec}
 use Rattle.shared_words.proofs.Common.{Extent, Frees, Ghosts, IsSend, Logic, RattleType, Ura, Val, assume, block_of, count_of, done, drop, each, ent, fall, feq, feq_i, feq_l, fjoin, flt_i, flt_l, fpack, frame, fsep, fsplit, full_share, fwand, id⊢, in_a_block, in_block, lies_at, move, never, nothing, part_at, part_keyless, sem, sendable, sep, show, strip, struct_send, wand, with_items, with_items_is, ‵, ◌$◌}
-use Rattle.std.proofs.lemmas.Bool.{ne_eqb, not_from_false}
+use Rattle.std.{proofs.lemmas.Bool.ne_eqb, proofs.lemmas.Bool.not_from_false, specs.Allocator.block_with_items}
 use base.Fml.{ftrue}
 use base.Shift.{Keyless}
 use types.Kit.{◌∵◌, !, qed, by, use1, rewrite}
@@ -13,10 +13,8 @@ use denote.Index.{row, whole_in, whole_out}
 use denote.Memory.{mem}
 use denote.RawPtr.{Ptr, block_ptr}
 use denote.Struct.Declared as declared
-use Rattle.std.specs.Allocator.{block_with_items}
-use Rattle.std_alloc.specs.Vec.Ownership.{owns_if, has_block}
+use Rattle.std_alloc.{specs.Vec.Ownership.owns_if, specs.Vec.Ownership.has_block, proofs.SendSync.Vec-send}
 use Rattle.std_alloc.specs.contracts.vec.Vec as V
-use Rattle.std_alloc.proofs.SendSync.{Vec-send}
 use Rattle.shared_words.specs.contracts.in_place.Hollow as Hollow
 use Rattle.shared_words.specs.contracts.in_place.Hollow.TheInside as Inside
 use Rattle.shared_words.proofs.StructSteps.{plainly, one, one_made}

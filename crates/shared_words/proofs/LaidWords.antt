@@ -1,8 +1,7 @@
 -- Words that are read from and written to bytes, one after another.
 use Rattle.std.proofs.Common.{◌≡◌, ℕ, ◌+◌, ◌*◌, ◌<◌, ◌≤◌, List, [], ◌∷◌, ◌++◌, length, get_or, take, drop, sym, refl, ap, ◌∙◌, arith, append_assoc, append-nil, length-append}
 use Rattle.shared_words.proofs.Common.{bytes_of, length-take-le, take_all, take_at, take_more}
-use Rattle.std.specs.Int.{to_le_bytes, w64}
-use Rattle.std.proofs.Math.Seq.{take-add}
+use Rattle.std.{specs.Int.to_le_bytes, specs.Int.w64, proofs.Math.Seq.take-add}
 
 pub bytes_snoc : (xs : List ℕ) (w : ℕ) → bytes_of (xs ++ w ∷ []) ≡ bytes_of xs ++ to_le_bytes w64 w
 bytes_snoc [] w = append-nil (to_le_bytes w64 w)

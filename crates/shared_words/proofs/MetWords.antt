@@ -33,17 +33,6 @@ pub all_grows : (m : List ℕ) (h l : Log) (xs : List (ℕ × ℕ × ℕ)) → G
 all_grows m h l [] g a = tt
 all_grows m h l (x ∷ xs) g a = (met_grows m h l x g a.0, all_grows m h l xs g a.1)
 
-pub all_snoc : (m : List ℕ) (h : Log) (xs : List (ℕ × ℕ × ℕ)) (x : ℕ × ℕ × ℕ) → AllMet m h xs → Met m h x → AllMet m h (xs ++ x ∷ [])
-all_snoc m h [] x a t = (t, tt)
-all_snoc m h (y ∷ ys) x a t = (a.0, all_snoc m h ys x a.1 t)
-
-pub all_both : (m : List ℕ) (h : Log) (xs ys : List (ℕ × ℕ × ℕ)) → AllMet m h xs → AllMet m h ys → AllMet m h (xs ++ ys)
-all_both m h [] ys a b = b
-all_both m h (x ∷ xs) ys a b = (a.0, all_both m h xs ys a.1 b)
-
-itself : (c : List (ℕ × ℕ)) → StartsWith c c
-itself c = ([], sym (append-nil c))
-
 pub grows_store : (h : Log) (p q : List (ℕ × ℕ)) → Grows (h ++ p ∷ []) (h ++ (p ++ q) ∷ [])
 grows_store [] p q zero c e = (p ++ q, refl, refl, (q, ap (λ (d : List (ℕ × ℕ)). d ++ q) (some-injective p c e)))
 grows_store [] p q (suc i) c e = absurd (some-ne-none c (sym e))

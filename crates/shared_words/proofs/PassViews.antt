@@ -1,8 +1,8 @@
 -- The first view, a view that is cut in two, two that are joined, and what the only view knows.
 use Rattle.std.proofs.Common.{◌≡◌, ℕ, eqb, zero, suc, ◌+◌, ◌-◌, ◌*◌, ◌<◌, ◌≤◌, ◌≢◌, ◌⊎◌, Bool, true, false, cond, List, [], ◌∷◌, ◌++◌, length, set, sym, refl, ap, ◌∙◌, subst, inl, inr, ⊎_elim, arith, ltb, lt_of_not-le}
-use Rattle.shared_words.proofs.Common.{AllFit, AllMet, Ends, Fits, Good, Joined, StartsWith, View, after, both, clock_of, cut_left, cut_right, dec_le, dite, get_elem?, held, holders, longer, opening, placed, shares, some, some-injective, spent, stored, sum_by-append, sum_by_push, times, ℕ_discrete}
+use Rattle.shared_words.proofs.Common.{AllFit, AllMet, Ends, Fits, Good, Joined, StartsWith, View, after, both, clock_of, cut_left, cut_right, dec_le, dite, get_elem?, held_words, holders, longer, opening, placed, shares, some, some-injective, spent, stored, sum_by-append, sum_by_push, times, ℕ_discrete, Met}
 use borrow.Author.Tests.{ltb-true, ltb-false}
-use Rattle.shared_words.proofs.MetWords.{all_both}
+use Rattle.itm_types.proofs.Elements.{all_append}
 use Rattle.shared_words.proofs.ListPlaces.{at_snoc, set_else, weigh_set, weigh_le, weigh_alone, starts_le, starts_whole, comparable}
 use Rattle.shared_words.proofs.GoodSteps.{at_place, each_set, hold, recounted, share_of}
 
@@ -173,7 +173,7 @@ module _ (cells : List ℕ) (views : List View) (g : Good cells views) (id : ℕ
           positions = λ p l. (let q = sum p in let a = t.2 in let b = t.3 in dite (ℕ_discrete (times p v.mine) 0)
               (λ (no : times p v.mine ≡ 0). (let x : p < length u.seen = f'.positions p (omega arith) in let r : p < length w.seen = omega arith in r))
               (λ (yes : times p v.mine ≢ 0). (let x : p < length v.seen = f.positions p (omega arith) in let r : p < length w.seen = omega arith in r)));
-          met = all_both g.base (g.log ++ g.pending ∷ []) v.met u.met f.met f'.met;
+          met = all_append (Met g.base (g.log ++ g.pending ∷ [])) v.met u.met f.met f'.met;
           holding = λ hv. (let k = f.holding hv in (t.4 k.0, k.1, k.2));
           spent = λ none. absurd (omega arith);
         } in
@@ -182,7 +182,7 @@ module _ (cells : List ℕ) (views : List View) (g : Good cells views) (id : ℕ
 
 -- what the view knows of them that holds the clock
 pub held_of : (cells : List ℕ) (views : List View) → Good cells views → (id : ℕ) (v : View) → get_elem? views id ≡ some v → v.holds ≡ true
-    → (clock : ℕ) (words : List ℕ) → clock ∷ words ≡ cells → (clock ≡ 2 * length v.seen + 1) × (words ≡ held v) × (v.high ≤ clock)
+    → (clock : ℕ) (words : List ℕ) → clock ∷ words ≡ cells → (clock ≡ 2 * length v.seen + 1) × (words ≡ held_words v) × (v.high ≤ clock)
 held_of cells views g id v at holds clock words is =
     let f : Fits g.base g.log g.pending (clock_of g.log views) v = g.each id v at in
     let h = f.holding holds in

@@ -8,8 +8,8 @@ use Rattle.atomic_table.specs.contracts.shared.Shared as table
 use Rattle.atomic_table.specs.contracts.shared.Seat as seat
 use Rattle.shared_words.specs.contracts.view.View as view
 use Rattle.shared_words.specs.contracts.initial.InitialWords as initial
-use Rattle.shared_words.specs.contracts.rule.Core as core
-use Rattle.shared_words.specs.contracts.rule.CoreTableRuleU8ViewInitialWords.TheImpl as rule
+use Rattle.shared_words.specs.contracts.rule.CellRule as core
+use Rattle.shared_words.specs.contracts.rule.CellRuleTableRuleU8ViewInitialWords.TheImpl as rule
 use Rattle.shared_words.specs.contracts.in_place.Row as row
 
 abbrev pub Views : RattleType

@@ -1,7 +1,7 @@
 -- Stores and commits one after another.
-use Rattle.std.proofs.Common.{◌≡◌, ◌^◌, ℕ, zero, suc, ◌<◌, ◌≤◌, List, [], ◌∷◌, ◌++◌, length, set, get_or, sym, refl, ap, ◌∙◌, length-set, take}
+use Rattle.std.proofs.Common.{◌≡◌, ℕ, ◌≤◌, List, [], ◌∷◌, ◌++◌, length, set, get_or, sym, refl, ap, ◌∙◌, length-set, take}
+use Rattle.itm_types.{proofs.Elements.all_take, proofs.WordLists.fit-set}
 use Rattle.shared_words.proofs.Common.{AllFit, CommitsFit, Stand, StartsWith, StoresFit, after, memory_at, stored, take-append-le}
-use Rattle.itm_types.proofs.WordLists.{fit-set}
 
 pub stored_snoc : (m : List ℕ) (xs : List (ℕ × ℕ)) (x : ℕ × ℕ) → stored m (xs ++ x ∷ []) ≡ set (stored m xs) x.0 x.1
 stored_snoc m [] x = refl
@@ -29,18 +29,8 @@ memory_stays m h more k s l = ap (after m) (ap (take k) s.1 ∙ take-append-le k
 
 -- ## Values that fit
 
-pub stores_snoc : (xs : List (ℕ × ℕ)) (k n : ℕ) → StoresFit xs → n < 2 ^ 64 → StoresFit (xs ++ (k, n) ∷ [])
-stores_snoc [] k n s l = (l, tt)
-stores_snoc (x ∷ xs) k n s l = (s.0, stores_snoc xs k n s.1 l)
-
-pub commits_snoc : (h : List (List (ℕ × ℕ))) (c : List (ℕ × ℕ)) → CommitsFit h → StoresFit c → CommitsFit (h ++ c ∷ [])
-commits_snoc [] c s l = (l, tt)
-commits_snoc (d ∷ ds) c s l = (s.0, commits_snoc ds c s.1 l)
-
 pub commits_take : (k : ℕ) (h : List (List (ℕ × ℕ))) → CommitsFit h → CommitsFit (take k h)
-commits_take zero h s = tt
-commits_take (suc k) [] s = tt
-commits_take (suc k) (c ∷ cs) s = (s.0, commits_take k cs s.1)
+commits_take k h s = all_take StoresFit k h s
 
 pub stored_fits : (m : List ℕ) (xs : List (ℕ × ℕ)) → AllFit m → StoresFit xs → AllFit (stored m xs)
 stored_fits m [] f s = f

@@ -1,8 +1,7 @@
 -- What each step owes the table.
 use Rattle.std.proofs.Common.{◌≡◌, ℕ, zero, suc, ◌<◌, ◌≤◌, ◌≢◌, ◌^◌, Bool, true, false, List, get_or, set, sym, refl, ap, ◌∙◌, subst, arith, ◌==◌, cond, Some, bit_xor}
-use Rattle.shared_words.proofs.Common.{Allows, AreGood, Cas, Good, Held, Joins, Lawful, Load, Loaded, Moves, Splits, Step, StepTells, Store, View, WasFound, both, cells_after, changes, cut_left, cut_right, exchanges, finds, get_elem?, held, held_cells, keeps, loads, none, settled, shares, some, spent, step, stores, wrote}
-use Rattle.std.specs.Int.Bits.{xor_assoc, xor_self, xor_zero_l}
-use Rattle.std.proofs.lemmas.Option.{get_or_from_slice_get}
+use Rattle.shared_words.proofs.Common.{Allows, AreGood, Cas, Good, Held, Joins, Lawful, Load, Loaded, Moves, Splits, Step, StepTells, Store, View, WasFound, both, cells_after, changes, cut_left, cut_right, exchanges, finds, get_elem?, held_words, held_cells, keeps, loads, none, settled, shares, some, spent, step, stores, wrote}
+use Rattle.std.{specs.Int.Bits.xor_assoc, specs.Int.Bits.xor_self, specs.Int.Bits.xor_zero_l, proofs.lemmas.Option.get_or_from_slice_get}
 use lib.Seq.{set-get_or}
 use prog.Atomic.{either}
 use Rattle.shared_words.proofs.GoodSteps.{held_word, share_of}
@@ -36,7 +35,7 @@ module _ (slots id : ℕ) (me : Held) (alive : 0 < me.0.share) where
   pub allows_change : (c bits : ℕ) → 0 < c → me.0.holds ≡ true → bit_xor (get_or (held_cells me.0) c 0) bits < 2 ^ 64 → Allows AreGood slots id me c (λ n. bit_xor n bits) (changes (step slots c bits 0 none) me)
   allows_change zero bits word holds small s g h at fit = absurd (omega arith)
   allows_change (suc k) bits word holds small s g h at fit =
-      let x : ℕ = bit_xor (get_or (held me.0) k 0) bits in
+      let x : ℕ = bit_xor (get_or (held_words me.0) k 0) bits in
       let r = turns s.words s.views g id me.0 at alive (Store (suc k) x) (holds, λ e. absurd (omega arith)) small in
       (r.0, keeps, tt, subst (λ (n : ℕ). Good (set s.words (suc k) (bit_xor n bits)) (set s.views id r.0)) (sym (held_word s.words s.views g id me.0 at k alive holds)) r.1, (r.2, r.3, refl, moves s.words s.views id me.0 g at (Store (suc k) x) r))
 
@@ -58,15 +57,16 @@ xor_back a b = sym (xor_assoc a a b) ∙ ap (λ (x : ℕ). bit_xor x b) (xor_sel
 -- so those in which a value differs from what was found of a word make the value of what stands there
 pub changed : (v : View) (c n x : ℕ) → 0 < c → WasFound v (Store c x) (Some n) → bit_xor (get_or (held_cells v) c 0) (bit_xor n x) ≡ x
 changed v zero n x word told = absurd (omega arith)
-changed v (suc k) n x word told = ap (λ (y : ℕ). bit_xor y (bit_xor n x)) (get_or_from_slice_get (held v) k n 0 told) ∙ xor_back n x
+changed v (suc k) n x word told = ap (λ (y : ℕ). bit_xor y (bit_xor n x)) (get_or_from_slice_get (held_words v) k n 0 told) ∙ xor_back n x
 
-load_one : (v w : View) (st : Step) (k n : ℕ) → Loaded v st k n w → (b : Bool) → v.holds ≡ b → w.holds ≡ v.holds
-load_one v w st k n l false e = ap (λ (u : View). u.holds) (l.0 e)
-load_one v w st k n l true e = ap (λ (u : View). u.holds) (l.1 e).0
+-- a load of a word changes neither who holds the clock nor the latest clock that was seen
+load_one : (v w : View) (st : Step) (k n : ℕ) → Loaded v st k n w → (b : Bool) → v.holds ≡ b → (w.holds ≡ v.holds) × (w.high ≡ v.high)
+load_one v w st k n l false e = (let same = l.0 e in (ap (λ (u : View). u.holds) same, ap (λ (u : View). u.high) same))
+load_one v w st k n l true e = (let same = (l.1 e).0 in (ap (λ (u : View). u.holds) same, ap (λ (u : View). u.high) same))
 
 pub load_holds : (v w : View) (c n : ℕ) → StepTells v (Load c) n w → w.holds ≡ v.holds
 load_holds v w zero n t = ap (λ (u : View). u.holds) (t.0 refl).0
-load_holds v w (suc k) n t = (let l : Loaded v (Load (suc k)) k n w = t.1 k (omega arith) in load_one v w (Load (suc k)) k n l v.holds refl)
+load_holds v w (suc k) n t = (let l : Loaded v (Load (suc k)) k n w = t.1 k (omega arith) in (load_one v w (Load (suc k)) k n l v.holds refl).0)
 
 pub free_holds : (v w : View) (x n : ℕ) → StepTells v (Store 0 x) n w → w.holds ≡ false
 free_holds v w x n t = ap (λ (u : View). u.holds) (t.0 refl).0
@@ -80,13 +80,9 @@ store_holds v w (suc k) x n away t = (let e : w ≡ wrote v (Store (suc k) x) k 
 pub load_latest : (v w : View) (c n : ℕ) → c ≡ 0 → StepTells v (Load c) n w → w.high ≡ n
 load_latest v w c n is t = ap (λ (u : View). u.high) (t.0 is).0
 
-load_other : (v w : View) (st : Step) (k n : ℕ) → Loaded v st k n w → (b : Bool) → v.holds ≡ b → w.high ≡ v.high
-load_other v w st k n l false e = ap (λ (u : View). u.high) (l.0 e)
-load_other v w st k n l true e = ap (λ (u : View). u.high) (l.1 e).0
-
 pub load_high : (v w : View) (c n : ℕ) → c ≢ 0 → StepTells v (Load c) n w → w.high ≡ v.high
 load_high v w zero n away t = absurd (away refl)
-load_high v w (suc k) n away t = (let l : Loaded v (Load (suc k)) k n w = t.1 k (omega arith) in load_other v w (Load (suc k)) k n l v.holds refl)
+load_high v w (suc k) n away t = (let l : Loaded v (Load (suc k)) k n w = t.1 k (omega arith) in (load_one v w (Load (suc k)) k n l v.holds refl).1)
 
 pub store_high : (v w : View) (c x n : ℕ) → c ≢ 0 → StepTells v (Store c x) n w → w.high ≡ v.high
 store_high v w zero x n away t = absurd (away refl)

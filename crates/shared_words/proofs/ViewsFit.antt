@@ -2,7 +2,7 @@
 use Rattle.std.proofs.Common.{◌≡◌, ◌≢◌, ℕ, zero, suc, ◌+◌, ◌≤◌, Bool, true, false, List, [], ◌∷◌, length, length-append, sym, refl, ap, ◌∙◌, subst, arith, le_refl, ⊎_elim}
 use Rattle.shared_words.proofs.Common.{AllFit, Cas, CommitsFit, IsOver, Joined, Lawful, Load, Loaded, Looked, Step, StepTells, Store, StoresFit, Took, ValueFits, View, dite, ℕ_discrete}
 use Rattle.shared_words.proofs.ListPlaces.{starts_le}
-use Rattle.shared_words.proofs.StoredWords.{stores_snoc, commits_snoc}
+use Rattle.itm_types.proofs.Elements.{all_append}
 
 module _ (cells : ℕ) (v w : View) (o : IsOver cells v) where
   by_look : (st : Step) (n : ℕ) → Looked v st n w → IsOver cells w
@@ -23,10 +23,10 @@ module _ (cells : ℕ) (v w : View) (o : IsOver cells v) where
       let one = length-append v.seen (v.done ∷ []) in
       let long = o.long in
       subst (IsOver cells) (sym (t.0 refl).0)
-      (record { size = o.size; base_fits = o.base_fits; seen_fits = commits_snoc v.seen v.done o.seen_fits o.done_fits; done_fits = tt; high = le_refl x; long = omega arith; known = omega arith })
+      (record { size = o.size; base_fits = o.base_fits; seen_fits = all_append StoresFit v.seen (v.done ∷ []) o.seen_fits (o.done_fits, tt); done_fits = tt; high = le_refl x; long = omega arith; known = omega arith })
   over_step (Store (suc k) x) n can f t =
       subst (IsOver cells) (sym (t.1 k (let e : suc k ≡ k + 1 = omega arith in e)))
-      (record { size = o.size; base_fits = o.base_fits; seen_fits = o.seen_fits; done_fits = stores_snoc v.done k x o.done_fits f; high = o.high; long = o.long; known = o.known })
+      (record { size = o.size; base_fits = o.base_fits; seen_fits = o.seen_fits; done_fits = all_append _ v.done ((k, x) ∷ []) o.done_fits (f, tt); high = o.high; long = o.long; known = o.known })
   over_step (Cas c s x) n can f t = dite (ℕ_discrete n s) (λ (hit : n ≡ s). by_take (Cas c s x) s (t.0 hit)) (λ (miss : n ≢ s). by_look (Cas c s x) n (t.1 miss))
 
 -- the joined view

@@ -1,5 +1,6 @@
 -- Memory is a list of words. A commit is the list of its stores, in order, each a word's number and its new value.
 use Rattle.std.specs.Prelude.{◌≡◌, ℕ, ◌<◌, ◌≤◌, ◌^◌, List, [], ◌∷◌, ◌++◌, length, slice_index, slice_set, take}
+use Rattle.std.specs.List.{AllByRecursion}
 use mathlib.Core.Option.{some}
 use lib.ListN.{get_elem?}
 
@@ -39,14 +40,11 @@ pub record Met (m : List ℕ) (h : List (List (ℕ × ℕ))) (x : ℕ × ℕ × 
   pub value : x.1 ≡ slice_index (stored (memory_at m h commits) (take stores next)) x.0
 
 abbrev pub AllMet : List ℕ → List (List (ℕ × ℕ)) → List (ℕ × ℕ × ℕ) → Type 0
-AllMet m h [] = Unit {0}
-AllMet m h (x ∷ xs) = Met m h x × AllMet m h xs
+AllMet m h xs = AllByRecursion (Met m h) xs
 
 -- each value fits 64 bits
 abbrev pub StoresFit : List (ℕ × ℕ) → Type 0
-StoresFit [] = Unit {0}
-StoresFit (x ∷ xs) = (x.1 < 2 ^ 64) × StoresFit xs
+StoresFit xs = AllByRecursion (λ x. x.1 < 2 ^ 64) xs
 
 abbrev pub CommitsFit : List (List (ℕ × ℕ)) → Type 0
-CommitsFit [] = Unit {0}
-CommitsFit (c ∷ cs) = StoresFit c × CommitsFit cs
+CommitsFit cs = AllByRecursion StoresFit cs

@@ -5,7 +5,7 @@ use lib.ListN.{get_elem?}
 use Rattle.shared_words.specs.declared.view.View.{View}
 use Rattle.itm_types.specs.Memory.{bytes_of, AllFit}
 use Rattle.shared_words.specs.Commits.{stored, after, StartsWith, Stand, AllMet, StoresFit, CommitsFit}
-use Rattle.shared_words.specs.Views.{held, holders, times, placed, shares}
+use Rattle.shared_words.specs.Views.{held_words, holders, times, placed, shares}
 
 -- what is true of one view, where `log` are the commits so far, `pending` the stores of the holder since, and `clock` is cell 0
 pub record Fits (base : List ℕ) (log : List (List (ℕ × ℕ))) (pending : List (ℕ × ℕ)) (clock : ℕ) (v : View) : Type 0 where
@@ -63,10 +63,10 @@ pub record EndsWith (v : View) (clock : ℕ) (bytes : List ℕ) : Type 0 where
 pub record EndsInHold (v : View) (clock : ℕ) (words : List ℕ) : Type 0 where
   pub clock_is : clock ≡ 2 * length v.seen + 1
   pub high : v.high ≤ clock
-  pub words_are : words ≡ held v
+  pub words_are : words ≡ held_words v
 
 -- the same, as bytes
 pub record EndsHeld (v : View) (clock : ℕ) (bytes : List ℕ) : Type 0 where
   pub clock_is : clock ≡ 2 * length v.seen + 1
   pub high : v.high ≤ clock
-  pub bytes_are : bytes ≡ bytes_of (held v)
+  pub bytes_are : bytes ≡ bytes_of (held_words v)

@@ -5,7 +5,7 @@ use Rattle.itm_types.specs.declared.limits.TheConstants.{MAX_COMMITS}
 use Rattle.itm_types.specs.declared.step.Step.{Step}
 use Rattle.itm_types.specs.declared.step.Step.TheVariants.{Load, Store, Cas}
 use Rattle.shared_words.specs.Commits.{after, StartsWith, Stand, CommitsFit}
-use Rattle.shared_words.specs.Views.{looked, took, read, noted, wrote, freed, held, times}
+use Rattle.shared_words.specs.Views.{looked, took, read, noted, wrote, freed, held_words, times}
 
 -- the history h was seen while the clock was n: it goes on from what was seen, it has n / 2 commits, n is no earlier than any clock that was known, and where the clock had not moved since the last look the words loaded since stand in it
 pub record Sees (v : View) (n : ℕ) (h : List (List (ℕ × ℕ))) : Type 0 where
@@ -30,7 +30,7 @@ Freed v st n w = (w ≡ freed v st n) × (v.high ≤ n)
 
 -- a word was loaded; the holder of the clock finds what its own stores have left
 abbrev pub Loaded : View → Step → ℕ → ℕ → View → Type 0
-Loaded v st k n w = (v.holds ≡ false → w ≡ read v st k n) × (v.holds ≡ true → (w ≡ noted v st n) × (n ≡ slice_index (held v) k))
+Loaded v st k n w = (v.holds ≡ false → w ≡ read v st k n) × (v.holds ≡ true → (w ≡ noted v st n) × (n ≡ slice_index (held_words v) k))
 
 -- the clock may be taken at s
 abbrev pub CanTake : View → ℕ → Type 0
@@ -55,7 +55,7 @@ ValueFits (Cas c s t) = Unit {0}
 
 -- what was found, if anything, of the word that the step stores is what the holder's own stores have left there
 abbrev pub WasFound : View → Step → Option ℕ → Type 0
-WasFound v (Store (suc k) x) (Some n) = slice_get (held v) k ≡ Some n
+WasFound v (Store (suc k) x) (Some n) = slice_get (held_words v) k ≡ Some n
 WasFound v st found = Unit {0}
 
 -- cell 0 is the clock, and the words follow it

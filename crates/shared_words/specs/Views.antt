@@ -41,12 +41,12 @@ freed v st n = record v { seen = v.seen ++ v.done ∷ []; mine = v.mine ++ v.clo
 -- ## What else is said of a view
 
 -- the words as the holder sees them
-abbrev pub held : View → List ℕ
-held v = stored (after v.base v.seen) v.done
+abbrev pub held_words : View → List ℕ
+held_words v = stored (after v.base v.seen) v.done
 
 -- the cells as the holder sees them
 abbrev pub held_cells : View → List ℕ
-held_cells v = (v.clock + 1) ∷ held v
+held_cells v = (v.clock + 1) ∷ held_words v
 
 -- what stays where a view is split
 abbrev pub cut_left : View → View

@@ -13,14 +13,14 @@ ghost use Rattle.shared_words.specs.Rule.{AreGood};
 ghost use Rattle.shared_words.specs.Views.{opening};
 
 use crate::initial::InitialWords;
-use crate::rule::Core;
+use crate::rule::CellRule;
 use crate::view::View;
 use atomic_table::{Seat, Shared};
 use std::alloc::Allocator;
 use std::marker::{Model, Move, Owns, PhantomData};
 
 /// Cells under the rule.
-pub(crate) type SharedCells = Shared<u8, View, InitialWords, Core>;
+pub(crate) type SharedCells = Shared<u8, View, InitialWords, CellRule>;
 
 /// Cells side by side, which nothing else can reach. It has no bytes.
 pub(crate) struct Row {

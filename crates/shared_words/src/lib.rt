@@ -17,6 +17,6 @@ pub use closed_words::ClosedWords;
 pub use fault::WordsFault;
 pub use initial::InitialWords;
 pub use pass::Pass;
-pub use rule::Core;
+pub use rule::CellRule;
 pub use view::View;
 pub use words::{Closed, Words};

@@ -8,9 +8,9 @@ use crate::view::View;
 use atomic_table::{Join, Play, Split, TableRule};
 
 /// The rule of a table of cells: one history of commits lies behind them. Its key is the words at the beginning.
-pub struct Core;
+pub struct CellRule;
 
-impl TableRule<u8, View, InitialWords> for Core {
+impl TableRule<u8, View, InitialWords> for CellRule {
     ghost holds = { λ k. AreGood };
 
     ghost first = { λ k. first_view k.words };

@@ -1,5 +1,5 @@
 -- Texts that are written one after another.
-use Rattle.std.proofs.Common.{◌≡◌, ℕ, ◌+◌, ◌-◌, ◌<◌, ◌≤◌, Bool, true, List, [], ◌∷◌, ◌++◌, length, take, drop, get_or, Option, Some, Result, refl, sym, ap, subst, ◌∙◌, arith, append-nil, append_assoc, drop-cons, add-one, decimal, flat_map, if◌then◌else◌}
+use Rattle.std.proofs.Common.{◌≡◌, ℕ, ◌+◌, ◌-◌, ◌<◌, ◌≤◌, Bool, true, List, [], ◌∷◌, ◌++◌, length, take, drop, get_or, Option, Some, Result, refl, sym, ap, subst, ◌∙◌, arith, append-nil, append_assoc, drop-cons, add-one, decimal, flat_map, if◌then◌else◌, IsErr, Ok, Err}
 use Rattle.step_table.proofs.Common.{Appends, Appends-nil, Appends-trans, Event, IsCut, Puts, View, back_text, blanks_beside, column_text, common_steps, cut_short, event_text, flat_map-append, front_text, length-append, line_of, number_text, shows, take-append-drop}
 use Rattle.step_table.proofs.ShownRows.{puts_then}
 
@@ -38,6 +38,11 @@ pub left_whole : {A : Type 0} (text : A → List ℕ) (xs : List A) (i width lef
 left_whole text xs i width left h p = (let past : take i xs ≡ xs = grind (arith, common_steps) in p ∙ ap (λ l. width - length (flat_map text l)) past)
 
 -- ## Three of them
+
+-- a write failed
+pub puts_cut : {A E : Type 0} (u v : Option (List ℕ)) (r : Result A E) (x : List ℕ) → IsErr r → IsCut u v x → Puts u v r x
+puts_cut u v (Ok y) x failed cut = absurd cc
+puts_cut u v (Err e) x failed cut = cut
 
 pub three_cut_first : (a b : Option (List ℕ)) (x y z : List ℕ) → IsCut a b x → IsCut a b (x ++ y ++ z)
 three_cut_first a b x y z q = cut_short a a b [] x (y ++ z) (x ++ y ++ z) (Appends-nil a) q (append_assoc x y z)

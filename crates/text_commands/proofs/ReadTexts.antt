@@ -6,8 +6,7 @@ use Rattle.std.proofs.lemmas.Bool.{cases_lt, lt-ltb}
 use Rattle.std.proofs.lemmas.List.{length-append, length-take}
 use Rattle.std.proofs.lemmas.Grind.{common_steps}
 use Rattle.script_fields.specs.declared.fault.AsmFault.{AsmFault}
-use Rattle.script_program.specs.declared.limits.TheConstants.{MAX_TEXT}
-use Rattle.script_program.specs.Listing.{Listing}
+use Rattle.script_program.{specs.declared.limits.TheConstants.MAX_TEXT, specs.Listing.Listing}
 use Rattle.script_asm.specs.Assembly.{program_of}
 use Rattle.text_commands.specs.declared.failure.Failure.TheVariants as failures
 use Rattle.text_commands.specs.declared.input.InputFault.{InputFault}

@@ -5,8 +5,7 @@ use Rattle.itm_types.specs.declared.access.ReadHint.TheVariants.{R}
 use Rattle.itm_types.specs.declared.access.Width.TheVariants.{U8}
 use Rattle.itm_types.specs.declared.access.WriteHint.TheVariants.{W}
 use Rattle.itm_types.specs.declared.limits.TheConstants.{MAX_COMMITS}
-use Rattle.script_asm.specs.Assembly.{program_of}
-use Rattle.script_asm.proofs.OnLiterals.{on_literals}
+use Rattle.script_asm.{specs.Assembly.program_of, proofs.OnLiterals.on_literals}
 use Rattle.script_fields.specs.declared.place.Place.TheVariants.{Number}
 use Rattle.script_fields.specs.declared.register.Register.TheVariants.{R0, R1, R2}
 use Rattle.script_program.specs.declared.instruction.Instruction.{Instruction}

@@ -1,7 +1,6 @@
 -- A text that was written and handed on.
 use Rattle.std.proofs.Common.{ℕ, List, length, Option, Result, Ok, Err, arith}
-use Rattle.std.specs.Io.KnownBytes.{Appends, Keeps}
-use Rattle.std.proofs.KnownBytes.{Appends-kept}
+use Rattle.std.{specs.Io.KnownBytes.Appends, specs.Io.KnownBytes.Keeps, proofs.KnownBytes.Appends-kept}
 use Rattle.tx_history.specs.Spelling.{Writes}
 use Rattle.text_commands.proofs.ReadTexts.{past}
 

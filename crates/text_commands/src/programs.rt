@@ -7,7 +7,7 @@ ghost use Rattle.text_commands.specs.Answers.{Reads};
 
 use crate::failure::Failure;
 use crate::input::read_up_to;
-use script_asm::{AsmFault, AsmKind, assemble};
+use script_asm::{AsmFault, FaultKind, assemble};
 use script_program::{MAX_TEXT, Program};
 use std::alloc::Global;
 use std::io::Read;
@@ -19,7 +19,7 @@ fn program_of(alloc: Global, text: &[u8]) -> Result<Program, Failure<AsmFault>>
     match assemble(alloc, text) {
         Ok(program) => Ok(program),
         Err(fault) => match fault.kind {
-            AsmKind::Memory => Err(Failure::NoMemory),
+            FaultKind::Memory => Err(Failure::NoMemory),
             _ => Err(Failure::Faulty(fault)),
         },
     }

@@ -84,11 +84,9 @@ module _ (words : Words) (t new : Standing) (is : t.engine.irrevocable ≡ false
 
   pub not_entered : (stop : Stop) → Tells words t (Begin usual 0) (answer_of stop) new → in_transaction new.engine ≡ true → HasGoneBack t new
   not_entered (stops.Refused why) a o = refused_back why a o
-  not_entered (stops.Conflict clock word) a o = absurd (true≢false (sym o ∙ a.served.tells.closes.closed))
   not_entered (stops.Restarted clock word) a o = (let same = ap (λ v. v.looks) (a.served.at_once (begin_idle t.engine inside)).0 in let looks = a.served.tells.looks in absurd (omega arith))
-  not_entered (stops.Busy clock) a o = absurd (true≢false (sym o ∙ a.served.tells.closes.closed))
-  not_entered (stops.Full at) a o = absurd (true≢false (sym o ∙ a.served.tells.closes.closed))
   not_entered stops.Memory a o = subst (HasGoneBack t) (sym a.err) (back_self t)
+  not_entered stop a o = absurd (true≢false (sym o ∙ a.served.tells.closes.closed))
 
 -- ## The call that ends it
 
@@ -144,10 +142,8 @@ module _ (words : Words) (t l new : Standing) (began : Core) (h : HasEntered t.e
     | inr x ↦ (inr (x.0, ap Reply x.1), a.served.mine)
   ]
   commit_out (answers.Committed at wrote) a = absurd (not_outermost a.served.tells.outermost a.served.tells.was_open)
-  commit_out (answers.Conflict clock word) a = (inl a.served.tells.closes.closed, a.served.mine)
   commit_out (answers.Restarted clock word) a = absurd (commit_whole (start_of l Commit false) (answers.Restarted clock word) (view_of new.pass) new.engine a.served refl tt)
-  commit_out (answers.Busy clock) a = (inl a.served.tells.closes.closed, a.served.mine)
-  commit_out (answers.Full at) a = (inl a.served.tells.closes.closed, a.served.mine)
+  commit_out answer a = (inl a.served.tells.closes.closed, a.served.mine)
 
   -- one that is served
   pub served_done : (a : Answer) → IsAnswered words (start_of l Commit false) a new.pass new.engine → GoesOn a → a ≡ Reply Done
@@ -178,10 +174,8 @@ module _ (words : Words) (t l new : Standing) (began : Core) (h : HasEntered t.e
   pub abort_out : (a : Answer) → IsAnswered words (start_of l (Abort false) false) a new.pass new.engine → (Over ⊎ HasGoneBack t new) × Same l new
   abort_out (Reply r) a = (abort_reply r a, a.served.mine)
   abort_out (answers.Committed at wrote) a = absurd (subst NoCommit a.served.tells.call tt)
-  abort_out (answers.Conflict clock word) a = (inl a.served.tells.closes.closed, a.served.mine)
   abort_out (answers.Restarted clock word) a = absurd (cancel_whole (start_of l (Abort false) false) (answers.Restarted clock word) (view_of new.pass) new.engine false a.served refl tt)
-  abort_out (answers.Busy clock) a = (inl a.served.tells.closes.closed, a.served.mine)
-  abort_out (answers.Full at) a = (inl a.served.tells.closes.closed, a.served.mine)
+  abort_out answer a = (inl a.served.tells.closes.closed, a.served.mine)
 
 -- ## One run
 
@@ -218,11 +212,7 @@ module _ (from began last new : Lent) (e : Enters from began) (kept : IsKept beg
 
   not_done : (stop : Stop) → answer_of stop ≡ Some (Reply Done) → ⊥
   not_done (stops.Refused why) is = absurd (cc)
-  not_done (stops.Conflict clock word) is = absurd (cc)
-  not_done (stops.Restarted clock word) is = absurd (cc)
-  not_done (stops.Busy clock) is = absurd (cc)
-  not_done (stops.Full at) is = absurd (cc)
-  not_done stops.Memory is = absurd (cc)
+  not_done stop is = absurd (cc)
 
   -- a commit of it that is not served finds no transaction open
   pub commit_failed : (stop : Stop) → Leaves Commit last (Err stop) new → IsAsBefore from new

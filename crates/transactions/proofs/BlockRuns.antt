@@ -53,12 +53,8 @@ module _ {F R E : Type 0} (fn : Mut F (MutBor Lent × Unit {0}) (Result R (Stopp
   -- ## A block that did not begin
 
   begin_kept : (stop : Stop) → Tells from.words from.thread (Begin usual 0) (answer_of stop) new.thread → new.words ≡ from.words → IsKept from new
-  begin_kept (stops.Refused why) a words = record { words = words; mine_is = a.served.mine; went = a.served.went }
-  begin_kept (stops.Conflict clock word) a words = record { words = words; mine_is = a.served.mine; went = a.served.went }
-  begin_kept (stops.Restarted clock word) a words = record { words = words; mine_is = a.served.mine; went = a.served.went }
-  begin_kept (stops.Busy clock) a words = record { words = words; mine_is = a.served.mine; went = a.served.went }
-  begin_kept (stops.Full at) a words = record { words = words; mine_is = a.served.mine; went = a.served.went }
   begin_kept stops.Memory a words = same_kept from new words a.err
+  begin_kept stop a words = record { words = words; mine_is = a.served.mine; went = a.served.went }
 
   stood : (stop : Stop) → EntersNot from stop new → IsKept from new × IsAsBefore from new
   stood stop e = elim e.why [

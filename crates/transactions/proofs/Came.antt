@@ -2,18 +2,14 @@
 use Rattle.std.proofs.Common.{◌≡◌, ◌∙◌, ◌+◌, ◌≤◌, ℕ, List, Result, Ok, Err, IfErr, IfOk, ap, arith, refl}
 use Rattle.transactions.proofs.Common.{ComesTo, Failed, Fails, HasLooked, IsCancelled, IsKept, IsLeft, IsPlainRun, KeepsBody, KeepsLent, Lent, Makings, Mut, MutBor, Standing, Stopped, Value, Words, mine_left, mine_of, view_of, went_on}
 use Rattle.transactions.specs.declared.failed.Failed.TheVariants as failures
-use Rattle.transactions.proofs.Plain.{plain_run}
-use Rattle.transactions.proofs.Tries.{rebased}
+use Rattle.transactions.{proofs.Plain.plain_run, proofs.Tries.rebased}
 
 module _ {F R E : Type 0} (fn : Mut F (MutBor Lent × Unit {0}) (Result R (Stopped E) × (MutBor Lent × Unit {0}))) where
   -- told of the words and the body that came first
   pub came_first : (words first : Words) → (KeepsLent fn → words ≡ first) → (body passed : F) → (KeepsBody fn → body ≡ passed) → (told : Result (Value R) (Failed E)) (new : Standing) → ComesTo fn body words told new → ComesTo fn passed first told new
   came_first words first is body passed same (Ok done) new t = rebased fn words first is body passed same _ new t
-  came_first words first is body passed same (Err (failures.Cancelled why)) new t = rebased fn words first is body passed same _ new t
-  came_first words first is body passed same (Err (failures.Refused refusal)) new t = rebased fn words first is body passed same _ new t
-  came_first words first is body passed same (Err failures.Full) new t = rebased fn words first is body passed same _ new t
-  came_first words first is body passed same (Err failures.Memory) new t = rebased fn words first is body passed same _ new t
   came_first words first is body passed same (Err failures.Tries) new t = tt
+  came_first words first is body passed same (Err why) new t = rebased fn words first is body passed same _ new t
 
   pub plain_of : (makings : Makings fn) (body : F) (words : Words) → KeepsLent fn → (told : Result (Value R) (Failed E)) (new : Standing) → ComesTo fn body words told new → IfOk told (λ done. IsPlainRun fn makings body words done new)
   plain_of makings body words keeps (Ok done) new t = plain_run fn makings body words done new words refl body (λ steady. refl) keeps t
@@ -22,10 +18,7 @@ module _ {F R E : Type 0} (fn : Mut F (MutBor Lent × Unit {0}) (Result R (Stopp
 -- a try whose body took it back has looked at the clock
 pub cancelled_goes : (R : Type 0) {E : Type 0} (why : Failed E) → IsCancelled {R = R} (Err why) → HasLooked {R = R} (Fails why)
 cancelled_goes R (failures.Cancelled why) is = tt
-cancelled_goes R (failures.Refused refusal) is = absurd is
-cancelled_goes R failures.Full is = absurd is
-cancelled_goes R failures.Memory is = absurd is
-cancelled_goes R failures.Tries is = absurd is
+cancelled_goes R why is = absurd is
 
 module _ {R E : Type 0} where
   -- after transactions that left nothing

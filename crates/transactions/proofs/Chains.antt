@@ -40,11 +40,7 @@ committed_late done value last then (answers.Committed at wrote) stood answered 
     let count = (stood.reads commits.was_open).count in
     let late = commits.closes.late commits.was_open in
     omega (arith, told, here, count, late)
-committed_late done value last then (answers.Reply r) stood answered is = absurd (subst is_other is tt)
-committed_late done value last then (answers.Conflict clock word) stood answered is = absurd (subst is_other is tt)
-committed_late done value last then (answers.Restarted clock word) stood answered is = absurd (subst is_other is tt)
-committed_late done value last then (answers.Busy clock) stood answered is = absurd (subst is_other is tt)
-committed_late done value last then (answers.Full at) stood answered is = absurd (subst is_other is tt)
+committed_late done value last then a stood answered is = absurd (subst is_other is tt)
 
 module _ {F R E : Type 0} (fn : Mut F (MutBor Lent × Unit {0}) (Result R (Stopped E) × (MutBor Lent × Unit {0}))) (keeps : KeepsLent fn) (f : F) (old : Lent) (again : Bool) (done : Value R) (f' : F) (new : Lent) where
   late_by : (began last : Lent) (gives : Result R (Stopped E)) → seen_of old ≤ seen_of began → CalledAtMut fn f began gives f' last → EndsBy gives last (Done done) new.thread → seen_of old ≤ done.at
@@ -97,11 +93,8 @@ module _ {F R E : Type 0} (fn : Mut F (MutBor Lent × Unit {0}) (Result R (Stopp
   module _ (tries : ℕ) (f' : F) (new : Lent) where
     -- a try that failed is told as its error
     pub tried_failed : (why : Failed E) → EndsTries fn f old tries (Fails why) f' new → HasTried fn f old tries (Err why) f' new
-    tried_failed (failures.Cancelled why) t = t
-    tried_failed (failures.Refused refusal) t = t
-    tried_failed failures.Full t = t
-    tried_failed failures.Memory t = t
     tried_failed failures.Tries t = absurd (tried_not fn t.body t.mid t.again f' new t.last)
+    tried_failed why t = t
 
     ends_body : KeepsBody fn → (told : Tried R E) → EndsTries fn f old tries told f' new → f' ≡ f
     ends_body steady told t = try_body fn t.body t.mid t.again f' new steady told t.last ∙ tries_body steady t.times t.again t.body t.mid t.before
@@ -109,11 +102,8 @@ module _ {F R E : Type 0} (fn : Mut F (MutBor Lent × Unit {0}) (Result R (Stopp
     -- they leave the body as it was, where each run does
     pub tried_body : KeepsBody fn → (told : Result (Value R) (Failed E)) → HasTried fn f old tries told f' new → f' ≡ f
     tried_body steady (Ok done) t = ends_body steady (Done done) t
-    tried_body steady (Err (failures.Cancelled why)) t = ends_body steady (Fails (failures.Cancelled why)) t
-    tried_body steady (Err (failures.Refused refusal)) t = ends_body steady (Fails (failures.Refused refusal)) t
-    tried_body steady (Err failures.Full) t = ends_body steady (Fails failures.Full) t
-    tried_body steady (Err failures.Memory) t = ends_body steady (Fails failures.Memory) t
     tried_body steady (Err failures.Tries) t = tries_body steady tries t.0 f' new t.1
+    tried_body steady (Err why) t = ends_body steady (Fails why) t
 
     ends_tells : (told : Tried R E) → EndsTries fn f old tries told f' new → Tells fn f old.words told new.thread
     ends_tells told t = record {
@@ -130,11 +120,8 @@ module _ {F R E : Type 0} (fn : Mut F (MutBor Lent × Unit {0}) (Result R (Stopp
     -- what they come to is told of the last one
     pub came_of : (told : Result (Value R) (Failed E)) → HasTried fn f old tries told f' new → ComesTo fn f old.words told new.thread
     came_of (Ok done) t = ends_tells (Done done) t
-    came_of (Err (failures.Cancelled why)) t = ends_tells (Fails (failures.Cancelled why)) t
-    came_of (Err (failures.Refused refusal)) t = ends_tells (Fails (failures.Refused refusal)) t
-    came_of (Err failures.Full) t = ends_tells (Fails failures.Full) t
-    came_of (Err failures.Memory) t = ends_tells (Fails failures.Memory) t
     came_of (Err failures.Tries) t = tt
+    came_of (Err why) t = ends_tells (Fails why) t
 
 -- ## Transactions that the body cancels
 
@@ -145,12 +132,8 @@ module _ {F R E : Type 0} (fn : Mut F (MutBor Lent × Unit {0}) (Result R (Stopp
 
   -- another one
   pub cancelled_more : (told : Result (Value R) (Failed E)) → IsCancelled told → HasTried fn g mid limit told f' new → AreCancelled fn f old tries (n + 1) f' new
-  cancelled_more (Ok done) is tried = absurd is
   cancelled_more (Err (failures.Cancelled why)) is tried = cancelled_at why tried
-  cancelled_more (Err (failures.Refused refusal)) is tried = absurd is
-  cancelled_more (Err failures.Full) is tried = absurd is
-  cancelled_more (Err failures.Memory) is tried = absurd is
-  cancelled_more (Err failures.Tries) is tried = absurd is
+  cancelled_more told is tried = absurd is
 
   -- the one that is told
   pub retried : (retries : ℕ) (told : Result (Value R) (Failed E)) → n ≤ retries → (IsCancelled told → n ≡ retries) → HasTried fn g mid limit told f' new → HasRetried fn f old tries retries told f' new

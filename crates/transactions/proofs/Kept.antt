@@ -1,7 +1,7 @@
 -- What a call of a body keeps.
 use Rattle.std.proofs.Common.{◌≡◌, ◌∙◌, ℕ, false, Option, None, Some, Result, Ok, Err, ap, subst, sym}
-use Rattle.transactions.proofs.Common.{Action, Answer, Call, CommitAction, Core, Done, GoesOn, IsKept, Lent, Owns, Reply, Served, Standing, Stop, Tells, UndoAction, View, Went, Words, answer_to_read, answer_to_write, came_over, mine_of, on_reply, refusal, stands_for, start_of, unrefused, view_of, went_self}
-use Rattle.itm_runtime.specs.declared.stop.Stop.TheVariants.{Refused, Conflict, Restarted, Busy, Full, Memory}
+use Rattle.transactions.proofs.Common.{Action, Answer, Call, CommitAction, Done, GoesOn, IsAnswered, IsKept, Lent, Owns, Reply, Standing, Stop, Tells, UndoAction, Went, Words, answer_to_read, answer_to_write, came_over, mine_of, on_reply, refusal, stands_for, start_of, unrefused, view_of, went_self}
+use Rattle.itm_runtime.specs.declared.stop.Stop.TheVariants.{Memory}
 use Rattle.transactions.proofs.Modes.{KeepsMode, stays_revocable}
 
 module _ (words : Words) (old : Standing) (call : Call) (new : Standing) where
@@ -17,12 +17,8 @@ module _ (words : Words) (old : Standing) (call : Call) (new : Standing) where
   IsMine = (view_of new.pass).mine ≡ (view_of old.pass).mine
 
   mine_at : (stop : Stop) → Tells words old call (answer_to_write (Err stop)) new → IsMine
-  mine_at (Refused refusal) t = t.served.mine
-  mine_at (Conflict clock word) t = t.served.mine
-  mine_at (Restarted clock word) t = t.served.mine
-  mine_at (Busy clock) t = t.served.mine
-  mine_at (Full at) t = t.served.mine
   mine_at Memory t = ap (λ (s : Standing). (view_of s.pass).mine) t.err
+  mine_at stop t = t.served.mine
 
   pub mine_of_read : (r : Result ℕ Stop) → Tells words old call (answer_to_read r) new → IsMine
   mine_of_read (Ok n) t = t.served.mine
@@ -52,12 +48,16 @@ module _ (inside now : Lent) (words : Words) (call : Call) (is : inside ≡ now)
   kept_by_write r t = kept_by (answer_to_write r) t (mine_of_write words inside.thread call new r t)
 
 -- an action that was registered, where the transaction goes on
-pub action_done : (t : Standing) (action : Action) (a : Answer) (v : View) (e : Core) → Served (start_of t (CommitAction action) false) a v e → GoesOn a → a ≡ Reply Done
-action_done t action a v e served on =
+pub action_told : (w : Words) (t new : Standing) (action : Action) (a : Answer) → IsAnswered w (start_of t (CommitAction action) false) a new.pass new.engine → GoesOn a → IsAnswered w (start_of t (CommitAction action) false) (Reply Done) new.pass new.engine
+action_told w t new action a answered on =
     let s = start_of t (CommitAction action) false in
-    on_reply (λ (x : Answer). x ≡ Reply Done) s a v e tt served on (λ r goes now. unrefused r Done (refusal t.engine.depth (stands_for t.engine (came_over s v e)) s.call) now.tells.here.reply_is goes)
+    let v = view_of new.pass in
+    subst (λ (x : Answer). IsAnswered w s x new.pass new.engine)
+    (on_reply (λ (x : Answer). x ≡ Reply Done) s a v new.engine tt answered.served on (λ r goes now. unrefused r Done (refusal t.engine.depth (stands_for t.engine (came_over s v new.engine)) s.call) now.tells.here.reply_is goes)) answered
 
-pub undo_done : (t : Standing) (action : Action) (a : Answer) (v : View) (e : Core) → Served (start_of t (UndoAction action) false) a v e → GoesOn a → a ≡ Reply Done
-undo_done t action a v e served on =
+pub undo_told : (w : Words) (t new : Standing) (action : Action) (a : Answer) → IsAnswered w (start_of t (UndoAction action) false) a new.pass new.engine → GoesOn a → IsAnswered w (start_of t (UndoAction action) false) (Reply Done) new.pass new.engine
+undo_told w t new action a answered on =
     let s = start_of t (UndoAction action) false in
-    on_reply (λ (x : Answer). x ≡ Reply Done) s a v e tt served on (λ r goes now. unrefused r Done (refusal t.engine.depth (stands_for t.engine (came_over s v e)) s.call) now.tells.here.reply_is goes)
+    let v = view_of new.pass in
+    subst (λ (x : Answer). IsAnswered w s x new.pass new.engine)
+    (on_reply (λ (x : Answer). x ≡ Reply Done) s a v new.engine tt answered.served on (λ r goes now. unrefused r Done (refusal t.engine.depth (stands_for t.engine (came_over s v new.engine)) s.call) now.tells.here.reply_is goes)) answered

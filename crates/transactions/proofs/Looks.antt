@@ -10,11 +10,9 @@ engine_open c m is = subst (λ (b : Bool). is_open (state_in b c.writes c.blocks
 module _ {R E : Type 0} (before : Standing) (again : Bool) (stood : Lent) (told : Tried R E) where
   pub stopped_looks : (stop : Stop) → BeginTold before again (answer_of stop) stood → told ≡ stop_told stop true → HasLooked told → (view_of before.pass).looks < looks_of stood
   stopped_looks (stops.Refused why) t is goes = absurd (subst HasLooked is goes)
-  stopped_looks (stops.Conflict clock word) t is goes = t.served.tells.looks
-  stopped_looks (stops.Restarted clock word) t is goes = t.served.tells.looks
-  stopped_looks (stops.Busy clock) t is goes = t.served.tells.looks
   stopped_looks (stops.Full at) t is goes = absurd (subst HasLooked is goes)
   stopped_looks stops.Memory t is goes = absurd (subst HasLooked is goes)
+  stopped_looks stop t is goes = t.served.tells.looks
 
 pub or_not : (b : Bool) → (b || false) ≡ b
 or_not true = refl

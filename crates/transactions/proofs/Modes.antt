@@ -1,7 +1,6 @@
 -- No call of a body takes the clock for good.
 use Rattle.std.proofs.Common.{◌≡◌, ◌∙◌, if◌then◌else◌, ℕ, Bool, true, false, List, [], ◌∷◌, Option, None, Some, ap, refl, sym, true≢false}
-use Rattle.transactions.proofs.Common.{Abort, Answer, Begin, Block, Busy, Call, Commit, Committed, Core, Full, Refusal, Reply, Restarted, Saved, Served, Stands, Start, State, View, after, after_unless, back_from, came_over, closed_irrevocable, effect, entered, in_transaction, is_open, left_over, mine_after, opened, refusal, rolled_back, stands_for, state_in, usual}
-use Rattle.norec_core.specs.declared.answer.Answer.TheVariants.{Conflict}
+use Rattle.transactions.proofs.Common.{Abort, Answer, Begin, Block, Call, Commit, Committed, Core, Refusal, Reply, Restarted, Saved, Served, Stands, Start, State, View, after, after_unless, back_from, came_over, closed_irrevocable, effect, entered, in_transaction, is_open, left_over, mine_after, opened, refusal, rolled_back, stands_for, state_in, usual}
 
 -- the call's effect leaves a revocable transaction so
 abbrev pub KeepsMode : Call → Type 0
@@ -31,11 +30,8 @@ shut_revocable {e = e} stands shut = by_mode e.irrevocable refl
 pub stays_revocable : (s : Start) (a : Answer) (v : View) (e : Core) → Served s a v e → Stands v e → KeepsMode s.call → s.engine.irrevocable ≡ false → e.irrevocable ≡ false
 stays_revocable s (Reply r) v e served stands keeps is =
     sym (stands_mode e (left_over v e)) ∙ ap (λ (t : State). t.irrevocable) served.tells.here.state ∙ mode_after s.engine.depth (stands_for s.engine (came_over s v e)) s.call keeps (stands_mode s.engine (came_over s v e) ∙ is)
-stays_revocable s (Committed at wrote) v e served stands keeps is = shut_revocable stands served.tells.closes.closed
-stays_revocable s (Conflict clock word) v e served stands keeps is = shut_revocable stands served.tells.closes.closed
 stays_revocable s (Restarted clock word) v e served stands keeps is = served.tells.revocable.1
-stays_revocable s (Busy clock) v e served stands keeps is = shut_revocable stands served.tells.closes.closed
-stays_revocable s (Full at) v e served stands keeps is = shut_revocable stands served.tells.closes.closed
+stays_revocable s a v e served stands keeps is = shut_revocable stands served.tells.closes.closed
 
 pub keeps_commit : KeepsMode Commit
 keeps_commit s is = by_blocks s.blocks
@@ -65,9 +61,5 @@ pub keeps_abort : KeepsMode (Abort false)
 keeps_abort s is = back_mode s s.blocks is
 
 pub mine_stays : (a : Answer) (mine : List ℕ) → ((at : ℕ) (wrote : Bool) → a ≡ Committed at wrote → ⊥) → mine_after mine a ≡ mine
-mine_stays (Reply r) mine other = refl
 mine_stays (Committed at wrote) mine other = absurd (other at wrote refl)
-mine_stays (Conflict clock word) mine other = refl
-mine_stays (Restarted clock word) mine other = refl
-mine_stays (Busy clock) mine other = refl
-mine_stays (Full at) mine other = refl
+mine_stays a mine other = refl

@@ -1,12 +1,11 @@
 -- The calls of a transaction are the plain machine's, on every memory that agrees with what was read.
 use Rattle.std.proofs.Common.{◌≡◌, ◌∙◌, ◌⊎◌, inl, inr, ℕ, ◌/◌, ◌&&◌, not, if◌then◌else◌, Bool, true, false, List, [], ◌∷◌, ◌++◌, map, Option, None, Some, Result, Ok, Err, ap, refl, subst, sym, true≢false}
-use Rattle.transactions.proofs.Common.{Abort, Action, Agrees, Answer, Begin, Block, Call, CalledAtMut, Calls, Cancelled, Code, Commit, CommitAction, Copy, CopyPair, Core, Deed, EndsBy, Engine, Fill, Frame, GoesOn, GoesOver, HasBegun, In, InTransaction, IsAnswered, IsMemory, IsPlain, IsPlainRun, IsTakenBack, IsTry, KeepsBody, KeepsLent, LeftBy, Lent, Load, Log, LogBytes, Makes, Makings, Mode, Mut, MutBor, NoCommit, Out, Props, Read, Refusal, Replied, Reply, Save, Standing, Stands, Start, StartsWith, State, Stays, Stopped, TakesBack, Tried, UndoAction, Value, Within, Words, Write, after, after_unless, as_undo, back, begun_at, bytes_of, calls_of, came_over, commit_told, committed_at, effect, entered, in_transaction, irrevocable_from, is_inside, is_memory, is_open, left_over, memory_in, memory_of, on_answer, opened, outside, pushed, recoded, refusal, replies, replies_of, reply, reply_unless, rolled_back, source_bytes, stands_for, start_of, state_after, state_in, state_over, state_with, target_written, undone, undone_from, usual, view_of, with_action, with_gone}
+use Rattle.transactions.proofs.Common.{Abort, Action, Agrees, Answer, Begin, Block, Call, CalledAtMut, Calls, Cancelled, Code, Commit, Copy, CopyPair, Core, Deed, EndsBy, Engine, Frame, GoesOn, GoesOver, HasBegun, IsAnswered, IsMemory, IsPlain, IsPlainRun, IsTakenBack, IsTry, KeepsBody, KeepsLent, LeftBy, Lent, Makes, Makings, Mode, Mut, MutBor, NoCommit, Out, Props, Refusal, Replied, Reply, Standing, Stands, Start, StartsWith, State, Stays, Stopped, TakesBack, Tried, UndoAction, Value, Words, after, after_unless, as_undo, back, begun_at, bytes_of, calls_of, came_over, commit_told, committed_at, effect, entered, in_transaction, irrevocable_from, is_inside, is_memory, is_open, left_over, memory_in, memory_of, on_answer, opened, outside, pushed, recoded, refusal, replies, replies_of, reply, reply_unless, rolled_back, source_bytes, stands_for, start_of, state_after, state_in, state_over, state_with, target_written, undone, undone_from, usual, view_of, with_action, with_gone}
 use Rattle.itm_types.specs.declared.call.ActionKind.TheVariants as kinds
 use Rattle.itm_types.specs.Calls.{is_abort}
 use Rattle.norec_core.specs.declared.answer.Answer.TheVariants as answers
 use Rattle.write_set.specs.declared.row.Row.{Row}
-use Rattle.norec_core.proofs.Logs.{agrees_less}
-use Rattle.norec_core.proofs.Replies.AnsweredEngines.{told_plainly}
+use Rattle.norec_core.{proofs.Logs.agrees_less, proofs.Replies.AnsweredEngines.told_plainly, proofs.Engines.Blocks.none_inside}
 use Rattle.itm_runtime.specs.declared.stop.Stop.TheVariants as stops
 use Rattle.transactions.specs.declared.tried.Tried.TheVariants.{Done}
 use Rattle.transactions.specs.Runs.{Tells}
@@ -14,7 +13,6 @@ use Rattle.transactions.proofs.Looks.{engine_open}
 use Rattle.transactions.proofs.RanActions.{ran_as, same_after, same_left, same_replies}
 use Rattle.transactions.proofs.Tries.{is_other, not_cancelled, not_stopped, told_at}
 use Rattle.transactions.proofs.Modes.{KeepsMode, back_mode, keeps_begin, keeps_commit, rolled_mode, shut_revocable, stays_revocable}
-use Rattle.norec_core.proofs.Engines.Blocks.{none_inside}
 
 -- ## The mode
 
@@ -31,25 +29,16 @@ both_modes false s u e f = f
 
 copied_mode : (s : State) (pair : CopyPair) (place : ℕ) (bytes : List ℕ) → s.irrevocable ≡ false → (target_written s pair place bytes).irrevocable ≡ false
 copied_mode s (Out to) place bytes is = is
-copied_mode s (In from) place bytes is = is
-copied_mode s (Within from to) place bytes is = is
+copied_mode s pair place bytes is = is
 
 keeps : (call : Call) (new : Standing) → Stays call new → KeepsMode call
 keeps (Begin props room) new stays s is = both_modes (is_open s) (entered s props) (opened s.memory s.arena props) (entered_mode s props stays is) (entered_mode (outside s.memory s.arena) props stays refl)
 keeps Commit new stays s is = keeps_commit s is
 keeps (Abort outer) new stays s is = both_modes outer (undone s) (back s) (undone_mode s s.blocks is) (back_mode s s.blocks is)
 keeps (Mode room) new stays s is = absurd stays
-keeps InTransaction new stays s is = is
-keeps (Read hint width at) new stays s is = is
-keeps (Write hint at value) new stays s is = is
-keeps (Log width at) new stays s is = is
-keeps (LogBytes at size) new stays s is = is
 keeps (Copy c) new stays s is = copied_mode s c.pair c.to (source_bytes s c.pair c.from c.size) is
-keeps (Fill hint to byte size) new stays s is = is
-keeps (CommitAction action) new stays s is = is
 keeps (UndoAction action) new stays s is = both_modes s.irrevocable s (with_action s kinds.Undo action) is is
-keeps (Load width at) new stays s is = is
-keeps (Save at value) new stays s is = is
+keeps call new stays s is = is
 
 -- ## One call
 
@@ -270,11 +259,7 @@ module _ {F R E : Type 0} (fn : Mut F (MutBor Lent × Unit {0}) (Result R (Stopp
           plain = law began.words before began made.0 last.thread done.at done.wrote last.words new (opens_on before again answer began begins.stood begins.outside begins.answered begins.goes_on) made.1
               (subst (λ (x : Answer). IsAnswered last.words (start_of last.thread Commit false) x new.pass new.engine) told_so a);
         }
-    committed value (answers.Reply r) stood answered e left runs = absurd (subst is_other e tt)
-    committed value (answers.Conflict clock word) stood answered e left runs = absurd (subst is_other e tt)
-    committed value (answers.Restarted clock word) stood answered e left runs = absurd (subst is_other e tt)
-    committed value (answers.Busy clock) stood answered e left runs = absurd (subst is_other e tt)
-    committed value (answers.Full at) stood answered e left runs = absurd (subst is_other e tt)
+    committed value a stood answered e left runs = absurd (subst is_other e tt)
 
     ran : (gives : Result R (Stopped E)) → CalledAtMut fn body began gives body' last → EndsBy gives last told new → IsPlainRun fn makings passed first done new
     ran (Ok value) runs ends = committed value ends.answer ends.then ends.answered ends.told_is ends.left runs

@@ -1,8 +1,7 @@
 -- The calls of a block, with its begin and its commit, are calls of its transaction.
 use Rattle.std.proofs.Common.{◌≡◌, ◌∙◌, inl, inr, false, [], ◌∷◌, Result, Ok, Err, ap, refl, subst, sym}
 use Rattle.transactions.proofs.Common.{Begin, CalledAtMut, Calls, Cancelled, Code, Commit, Done, EndsBlockBy, Engine, HasRunBlock, IsAnswered, IsAsBefore, IsKept, IsPlainBlock, IsPlainIn, KeepsBlocks, KeepsLent, Leaves, Lent, Makes, Makings, Mut, MutBor, Reply, Stop, Stopped, TellsBlock, Words, block_told, start_of, usual}
-use Rattle.transactions.proofs.BlockOutcomes.{commit_served}
-use Rattle.transactions.proofs.Deeds.{makes_then}
+use Rattle.transactions.{proofs.BlockOutcomes.commit_served, proofs.Deeds.makes_then}
 
 abbrev told_value : {R E : Type 0} → R → Result (Result R E) Stop → R
 told_value other (Ok (Ok value)) = value

@@ -1,6 +1,6 @@
 -- The plain machine takes no heed of the actions that have come to run.
 use Rattle.std.proofs.Common.{◌≡◌, ◌∙◌, ℕ, Bool, true, false, List, [], ◌∷◌, ◌++◌, drop, map, reverse, Option, None, Some, ap, refl, if◌then◌else◌}
-use Rattle.transactions.proofs.Common.{Abort, Action, Begin, Block, Call, Calls, Commit, CommitAction, Copy, CopyPair, Deed, Fill, In, InTransaction, Load, Log, LogBytes, Mode, Out, Overlap, Props, Ran, Read, Refusal, Save, Saved, State, TakesBack, UndoAction, Within, Write, after, after_unless, answer, as_commit, as_undo, back, back_from, calls_of, closed_actions, closed_in, closed_irrevocable, effect, entered, irrevocable_from, is_clear, is_open, made_irrevocable, opened, or_else, outside, pushed, refusal, replies, reply, reply_unless, rolled_back, source_bytes, source_range, standing, state_after, state_with, target_range, target_written, undone, undone_from, unless, with_action}
+use Rattle.transactions.proofs.Common.{Abort, Action, Begin, Block, Call, Calls, Commit, Copy, CopyPair, Deed, Mode, Out, Overlap, Props, Ran, Refusal, Saved, State, TakesBack, UndoAction, after, after_unless, answer, as_commit, as_undo, back, back_from, calls_of, closed_actions, closed_in, closed_irrevocable, effect, entered, irrevocable_from, is_clear, is_open, made_irrevocable, opened, or_else, outside, pushed, refusal, replies, reply, reply_unless, rolled_back, source_bytes, source_range, standing, state_after, state_with, target_range, target_written, undone, undone_from, unless, with_action}
 use Rattle.itm_types.specs.declared.call.ActionKind.TheVariants as kinds
 
 -- with these instead
@@ -19,47 +19,19 @@ module _ (s : State) (ran : List Ran) where
 
   same_target : (pair : CopyPair) (place size : ℕ) → target_range u pair place size ≡ target_range s pair place size
   same_target (Out to) place size = refl
-  same_target (In from) place size = refl
-  same_target (Within from to) place size = refl
+  same_target pair place size = refl
 
   same_source : (pair : CopyPair) (place size : ℕ) → source_range u pair place size ≡ source_range s pair place size
   same_source (Out to) place size = refl
-  same_source (In from) place size = refl
-  same_source (Within from to) place size = refl
+  same_source pair place size = refl
 
   same_refusal : (d : ℕ) (call : Call) → refusal d u call ≡ refusal d s call
-  same_refusal d (Begin props room) = refl
-  same_refusal d Commit = refl
-  same_refusal d (Abort outer) = refl
-  same_refusal d (Mode room) = refl
-  same_refusal d InTransaction = refl
-  same_refusal d (Read hint width at) = refl
-  same_refusal d (Write hint at value) = refl
-  same_refusal d (Log width at) = refl
-  same_refusal d (LogBytes at size) = refl
   same_refusal d (Copy c) = λ i. or_else (standing d s (Copy c)) (or_else (same_target c.pair c.to c.size i) (or_else (same_source c.pair c.from c.size i) (unless (is_clear c) Overlap)))
-  same_refusal d (Fill hint to byte size) = refl
-  same_refusal d (CommitAction action) = refl
-  same_refusal d (UndoAction action) = refl
-  same_refusal d (Load width at) = refl
-  same_refusal d (Save at value) = refl
+  same_refusal d call = refl
 
   same_answer : (call : Call) → answer u call ≡ answer s call
   same_answer (Begin props room) = refl
-  same_answer Commit = refl
-  same_answer (Abort outer) = refl
-  same_answer (Mode room) = refl
-  same_answer InTransaction = refl
-  same_answer (Read hint width at) = refl
-  same_answer (Write hint at value) = refl
-  same_answer (Log width at) = refl
-  same_answer (LogBytes at size) = refl
-  same_answer (Copy c) = refl
-  same_answer (Fill hint to byte size) = refl
-  same_answer (CommitAction action) = refl
-  same_answer (UndoAction action) = refl
-  same_answer (Load width at) = refl
-  same_answer (Save at value) = refl
+  same_answer call = refl
 
   same_reply : (d : ℕ) (call : Call) → reply d u call ≡ reply d s call
   same_reply d call = λ i. reply_unless (same_refusal d call i) (same_answer call i)
@@ -113,8 +85,7 @@ same_aborted s ran false = same_innermost s ran s.blocks
 
 same_copied : (s : State) (ran : List Ran) (pair : CopyPair) (from to size : ℕ) → target_written (ran_as ran s) pair to (source_bytes (ran_as ran s) pair from size) ≡ ran_as ran (target_written s pair to (source_bytes s pair from size))
 same_copied s ran (Out place) from to size = refl
-same_copied s ran (In place) from to size = refl
-same_copied s ran (Within first second) from to size = refl
+same_copied s ran pair from to size = refl
 
 same_undo : (s : State) (ran : List Ran) (action : Action) (b : Bool) → (if b then ran_as ran s else with_action (ran_as ran s) kinds.Undo action) ≡ ran_as ran (if b then s else with_action s kinds.Undo action)
 same_undo s ran action true = refl
@@ -125,17 +96,9 @@ same_effect s ran (Begin props room) = same_begun s ran props (is_open s)
 same_effect s ran Commit = same_closed s ran s.blocks
 same_effect s ran (Abort outer) = same_aborted s ran outer
 same_effect s ran (Mode room) = (ran, same_irrevocable s ran s.irrevocable)
-same_effect s ran InTransaction = (ran, refl)
-same_effect s ran (Read hint width at) = (ran, refl)
-same_effect s ran (Write hint at value) = (ran, refl)
-same_effect s ran (Log width at) = (ran, refl)
-same_effect s ran (LogBytes at size) = (ran, refl)
 same_effect s ran (Copy c) = (ran, same_copied s ran c.pair c.from c.to c.size)
-same_effect s ran (Fill hint to byte size) = (ran, refl)
-same_effect s ran (CommitAction action) = (ran, refl)
 same_effect s ran (UndoAction action) = (ran, same_undo s ran action s.irrevocable)
-same_effect s ran (Load width at) = (ran, refl)
-same_effect s ran (Save at value) = (ran, refl)
+same_effect s ran call = (ran, refl)
 
 -- ## Calls
 

@@ -183,10 +183,8 @@ module _ (words : Words) (t new : Standing) (call : Call) (other : NoCommit call
   answered_still : (a : Answer) → IsAnswered words (start_of t call false) a new.pass new.engine → IsWithinStill first t.engine → IsWithinStill first new.engine
   answered_still (Reply r) a w = mild_still words t new call false r (milds r) a is first w
   answered_still (answers.Committed at wrote) a w = absurd (subst NoCommit a.served.tells.call other)
-  answered_still (answers.Conflict clock word) a w = inr a.served.tells.closes.closed
   answered_still (answers.Restarted clock word) a w = restarted_still words t new call clock word a is first fresh w
-  answered_still (answers.Busy clock) a w = inr a.served.tells.closes.closed
-  answered_still (answers.Full at) a w = inr a.served.tells.closes.closed
+  answered_still answer a w = inr a.served.tells.closes.closed
 
   told_still : (told : Option Answer) → Tells words t call told new → IsWithinStill first t.engine → IsWithinStill first new.engine
   told_still (Some a) tells w = answered_still a tells w

@@ -1,11 +1,16 @@
 -- A player that makes its calls alone, one by one: they come first in what it gets.
-use Rattle.std.proofs.Common.{◌≡◌, ℕ, zero, suc, ◌≤◌, Bool, true, false, is_none, is_some, List, [], ◌∷◌, ◌++◌, length, map, Option, None, Some, refl, sym, ap, ◌∙◌, arith, cond}
+use Rattle.std.proofs.Common.{◌≡◌, ℕ, zero, suc, ◌≤◌, Bool, true, false, if◌then◌else◌, is_none, is_some, List, [], ◌∷◌, ◌++◌, length, map, Option, None, Some, refl, sym, ap, ◌∙◌, arith, cond}
 use Rattle.tx_attempts.proofs.Common.{Begin, Beginning, Breaks, Call, CallRecord, IsAlone, Obeys, Refusal, Reply, Rules, State, after, after_unless, begin_within, cond-false, effect, gets_through, is_open, later, outside, pair_of, player_then, refusal, reply, state_then, stays_outside, turn}
 
 -- a call that is made in an open block is the player's next
 asked_if : (b : Bool) (o : Option Call) (c : Call) → cond b o None ≡ Some c → o ≡ Some c
 asked_if true o c e = e
 asked_if false o c e = absurd (cc)
+
+-- and in an open block it is made
+pub open_asked : (b : Bool) (o : Option Call) (c : Call) → (if b then o else None) ≡ Some c → b ≡ true
+open_asked true o c e = refl
+open_asked false o c e = absurd (cc)
 
 -- the breaks that come after these calls
 abbrev pub breaks_after : Breaks → List CallRecord → Breaks
@@ -22,15 +27,14 @@ module _ {P : Type 0} (rules : Rules P) (laws : Obeys rules) (deepest : ℕ) whe
   -- so many calls suffice
   enough : (n k : ℕ) (br : Breaks) (p : P) (s : State) (o : Option Call) → turn rules.next_call rules.answered rules.calls_left p s ≡ o → rules.calls_left p ≤ n → rules.calls_left p ≤ k → gets n br p s o ≡ gets k br p s o
   enough zero zero br p s o e a b = refl
-  enough zero (suc k) br p s (Some c) e a b = (let l = laws.nearer p c (reply deepest s c) (asked p s c e) in absurd (omega arith))
-  enough (suc n) zero br p s None e a b = refl
-  enough (suc n) zero br p s (Some c) e a b = (let l = laws.nearer p c (reply deepest s c) (asked p s c e) in absurd (omega arith))
   enough (suc n) (suc k) br p s (Some c) e a b =
       let r = reply deepest s c in
       let l = laws.nearer p c r (asked p s c e) in
       let t : State = br 1 (after deepest s c) in
       ap (λ (xs : List (Call × Reply)). (c, r) ∷ xs)
       (enough n k (later br) (rules.answered p r) t (turn rules.next_call rules.answered rules.calls_left (rules.answered p r) t) refl (omega arith) (omega arith))
+  enough n k br p s (Some c) e a b = (let l = laws.nearer p c (reply deepest s c) (asked p s c e) in absurd (omega arith))
+  enough (suc n) zero br p s None e a b = refl
   enough n k br p s None e a b = refl
 
   -- the calls made alone come first, and then what the player gets after them
@@ -74,8 +78,6 @@ module _ {P : Type 0} (rules : Rules P) (laws : Obeys rules) (deepest : ℕ) whe
 
   comes_enough : (n k : ℕ) (p : P) (arena : List ℕ) (o : Option Call) → rules.next_call p ≡ o → rules.calls_left p ≤ n → rules.calls_left p ≤ k → comes n p arena o ≡ comes k p arena o
   comes_enough zero zero p arena o e a c = refl
-  comes_enough zero (suc k) p arena (Some call) e a c = (let l = laws.nearer p call (reply deepest (outside [] arena) call) e in absurd (omega arith))
-  comes_enough (suc n) zero p arena (Some call) e a c = (let l = laws.nearer p call (reply deepest (outside [] arena) call) e in absurd (omega arith))
   comes_enough (suc n) (suc k) p arena (Some (Begin props room)) e a c = (
       let q : P = rules.answered p (reply deepest (outside [] arena) (Begin props room)) in
       let l = laws.nearer p (Begin props room) (reply deepest (outside [] arena) (Begin props room)) e in
@@ -85,6 +87,7 @@ module _ {P : Type 0} (rules : Rules P) (laws : Obeys rules) (deepest : ℕ) whe
       let q : P = rules.answered p (reply deepest (outside [] arena) call) in
       let l = laws.nearer p call (reply deepest (outside [] arena) call) e in
       comes_enough n k q _ (rules.next_call q) refl (omega arith) (omega arith))
+  comes_enough n k p arena (Some call) e a c = (let l = laws.nearer p call (reply deepest (outside [] arena) call) e in absurd (omega arith))
   comes_enough (suc n) zero p arena None e a c = refl
   comes_enough n k p arena None e a c = refl
 

@@ -18,6 +18,6 @@ pub use Rattle.tx_attempts.specs.declared.attempt.Attempt.{Attempt}
 pub use Rattle.tx_attempts.specs.declared.attempt.CallRecord.{CallRecord}
 pub use Rattle.tx_attempts.specs.declared.attempt.Outcome.TheVariants.{Conflict, ReadOnly}
 pub use Rattle.tx_player.specs.Rules.{Obeys, Rules}
-pub use Rattle.std.proofs.lemmas.Bool.{cond-false, eq-eqb, le-ltb, lt-ltb, ltb-false, ltb-true, ne_eqb}
+pub use Rattle.std.proofs.lemmas.Bool.{cases_Bool, cond-false, eq-eqb, le-ltb, lt-ltb, ltb-false, ltb-true, ne_eqb}
 pub use Rattle.std.proofs.lemmas.List.{take-append-drop, take-append-le, take_more}
 pub use Rattle.std.proofs.lemmas.List.Elements.{All-append, All-cons, All-nil, All-push}

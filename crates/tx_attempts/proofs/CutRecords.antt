@@ -1,6 +1,6 @@
 -- Records of inner blocks that ran again, where one of them runs again once more: those before it stay.
-use Rattle.std.proofs.Common.{◌≡◌, ℕ, zero, suc, ◌<◌, ◌≤◌, Bool, true, false, nat_lt, if◌then◌else◌, List, [], ◌∷◌, ◌++◌, length, take, slice_get, refl, sym, ap, subst, ◌∙◌, arith}
-use Rattle.tx_attempts.proofs.Common.{Again, AreAgain, AtEach, CallRecord, IsAgain, IsInnerBegin, before, le-ltb, ltb-false, ltb-true, take-append-le}
+use Rattle.std.proofs.Common.{◌≡◌, ℕ, zero, suc, ◌<◌, ◌≤◌, Bool, true, false, nat_lt, if◌then◌else◌, List, [], ◌∷◌, ◌++◌, length, take, slice_get, refl, sym, ap, subst, ◌∙◌, arith, inl, inr}
+use Rattle.tx_attempts.proofs.Common.{Again, AreAgain, AtEach, CallRecord, IsAgain, IsInnerBegin, before, cases_Bool, le-ltb, ltb-false, ltb-true, take-append-le}
 
 -- ## Where they stand
 
@@ -49,13 +49,9 @@ at_each_both P calls (r ∷ rest) a h last = (h.0, at_each_both P calls rest a h
 -- and with more calls, of those that stand before so many
 pub at_each_before : (P : List CallRecord → Type 0) (kept : ℕ) (calls more : List CallRecord) (rs : List Again) → kept ≤ suc (length calls) → AtEach P calls (before kept rs) → AtEach P (calls ++ more) (before kept rs)
 at_each_before P kept calls more [] l h = tt
-at_each_before P kept calls more (r ∷ rest) l h = by_place (nat_lt r.kept kept) refl (at_each_before P kept calls more rest l)
-  where
-    by_place : (b : Bool) → nat_lt r.kept kept ≡ b → (AtEach P calls (before kept rest) → AtEach P (calls ++ more) (before kept rest)) → AtEach P (calls ++ more) (before kept (r ∷ rest))
-    by_place true e on =
-        let u = ltb-true r.kept kept e in
-        let g : AtEach P calls (r ∷ before kept rest) = subst (λ (b : Bool). AtEach P calls (if b then r ∷ before kept rest else before kept rest)) e h in
-        subst (λ (b : Bool). AtEach P (calls ++ more) (if b then r ∷ before kept rest else before kept rest)) (sym e) (subst P (sym (take-append-le r.kept calls more (omega (arith, u, l)))) g.0, on g.1)
-    by_place false e on =
-        let g : AtEach P calls (before kept rest) = subst (λ (b : Bool). AtEach P calls (if b then r ∷ before kept rest else before kept rest)) e h in
-        subst (λ (b : Bool). AtEach P (calls ++ more) (if b then r ∷ before kept rest else before kept rest)) (sym e) (on g)
+at_each_before P kept calls more (r ∷ rest) l h = elim (cases_Bool (nat_lt r.kept kept)) [
+  | inl e ↦
+      (let g = simp e at h in
+      simp e (subst P (sym (take-append-le r.kept calls more (omega (arith, ltb-true r.kept kept e, l)))) g.0, at_each_before P kept calls more rest l g.1))
+  | inr e ↦ simp e (at_each_before P kept calls more rest l (simp e at h))
+]

@@ -1,6 +1,6 @@
 -- Runs with records: of two that tell alike, and of a block that runs again.
-use Rattle.std.proofs.Common.{◌≡◌, ℕ, zero, suc, ◌<◌, Bool, true, false, List, [], ◌∷◌, ◌++◌, length, Option, None, Some, refl, sym, ap, subst, ◌∙◌, arith, nat_lt, ◌==◌, if◌then◌else◌, slice_get}
-use Rattle.tx_attempts.proofs.Common.{Again, AreAgain, AtEach, Breaks, CallRecord, IsAgain, IsAlone, IsInnerBegin, Rules, State, after, again_at, arena_set, before, breaks_in, breaks_of, eq-eqb, later, lt-ltb, ltb-false, ltb-true, ne_eqb, run_on, state_then, take-append-le, with_again}
+use Rattle.std.proofs.Common.{◌≡◌, ℕ, zero, suc, ◌<◌, ◌≤◌, List, [], ◌∷◌, ◌++◌, length, Option, None, Some, refl, sym, ap, subst, ◌∙◌, arith, inl, inr, nat_lt, ◌==◌, if◌then◌else◌, slice_get}
+use Rattle.tx_attempts.proofs.Common.{Again, AreAgain, AtEach, Breaks, CallRecord, IsAgain, IsAlone, IsInnerBegin, Rules, State, after, again_at, arena_set, before, breaks_in, breaks_of, cases_Bool, eq-eqb, later, lt-ltb, ltb-false, ltb-true, ne_eqb, run_on, state_then, take-append-le, with_again}
 use Rattle.std.proofs.lemmas.Option.{slice_get_within}
 use Rattle.tx_attempts.proofs.AloneCalls.{state_snoc}
 
@@ -46,20 +46,18 @@ module _ (a : Again) where
   -- the record is the one after its calls
   pub again_there : (rs : List Again) → again_at (with_again a rs) a.kept ≡ Some a
   again_there [] = rw (eq-eqb a.kept a.kept refl) refl
-  again_there (r ∷ rest) = by_place (nat_lt r.kept a.kept) refl (again_there rest)
-    where
-      by_place : (b : Bool) → nat_lt r.kept a.kept ≡ b → again_at (with_again a rest) a.kept ≡ Some a → again_at (with_again a (r ∷ rest)) a.kept ≡ Some a
-      by_place true e last = rw (e, ne_eqb r.kept a.kept (λ f. (let l = ltb-true r.kept a.kept e in omega arith))) last
-      by_place false e last = rw e last
+  again_there (r ∷ rest) = elim (cases_Bool (nat_lt r.kept a.kept)) [
+    | inl e ↦ rw (e, ne_eqb r.kept a.kept (λ f. (let l = ltb-true r.kept a.kept e in omega arith))) (again_there rest)
+    | inr e ↦ rw e (again_there rest)
+  ]
 
   -- and those before it stay
   pub again_before : (n : ℕ) → n < a.kept → (rs : List Again) → again_at (with_again a rs) n ≡ again_at rs n
   again_before n l [] = rw (ne_eqb a.kept n (λ e. omega arith)) refl
-  again_before n l (r ∷ rest) = by_place (nat_lt r.kept a.kept) refl (again_before n l rest)
-    where
-      by_place : (b : Bool) → nat_lt r.kept a.kept ≡ b → again_at (with_again a rest) n ≡ again_at rest n → again_at (with_again a (r ∷ rest)) n ≡ again_at (r ∷ rest) n
-      by_place true e last = rw e (ap (λ (o : Option Again). if r.kept == n then Some r else o) last)
-      by_place false e last = rw (e, ne_eqb r.kept n (λ f. (let g = ltb-false r.kept a.kept e in omega arith))) last
+  again_before n l (r ∷ rest) = elim (cases_Bool (nat_lt r.kept a.kept)) [
+    | inl e ↦ rw e (ap (λ (o : Option Again). if r.kept == n then Some r else o) (again_before n l rest))
+    | inr e ↦ rw (e, ne_eqb r.kept n (λ f. (let g = ltb-false r.kept a.kept e in omega arith))) (again_before n l rest)
+  ]
 
   pub alike_before : (does : Option Again → State → State) (rs : List Again) → AreAlike a.kept (by does rs) (by does (with_again a rs))
   alike_before does rs n l u s = ap (λ (o : Option Again). does o s) (sym (again_before n u rs))
@@ -88,23 +86,19 @@ is_within : (calls : List CallRecord) (place : ℕ) (o : Option CallRecord) → 
 is_within calls place None e i = absurd i
 is_within calls place (Some x) e i = slice_get_within calls place x e
 
+kept_within : (size : ℕ) (calls : List CallRecord) (r : Again) → IsAgain size calls r → r.kept ≤ length calls
+kept_within size calls r h = omega (arith, h.kept, is_within calls h.place (slice_get calls h.place) refl h.begins)
+
 -- no record stands after more calls than there are
 pub none_past : (size from : ℕ) (calls : List CallRecord) (rs : List Again) (n : ℕ) → length calls < n → AreAgain size from calls rs → again_at rs n ≡ None
 none_past size from calls [] n l h = refl
-none_past size from calls (r ∷ rest) n l h =
-    let first = h.0 in
-    let there = is_within calls first.place (slice_get calls first.place) refl first.begins in
-    rw (ne_eqb r.kept n (λ e. (let k = first.kept in omega arith))) (none_past size r.kept calls rest n l h.2)
+none_past size from calls (r ∷ rest) n l h = rw (ne_eqb r.kept n (λ e. (let k = kept_within size calls r h.0 in omega arith))) (none_past size r.kept calls rest n l h.2)
 
 -- so each stands before the next one
 pub all_before : (size from : ℕ) (calls : List CallRecord) (rs : List Again) → AreAgain size from calls rs → before (suc (length calls)) rs ≡ rs
 all_before size from calls [] h = refl
 all_before size from calls (r ∷ rest) h =
-    let first = h.0 in
-    let there = is_within calls first.place (slice_get calls first.place) refl first.begins in
-    let k = first.kept in
-    ap (λ (b : Bool). if b then r ∷ before (suc (length calls)) rest else before (suc (length calls)) rest) (lt-ltb r.kept (suc (length calls)) (omega arith))
-    ∙ ap (λ (xs : List Again). r ∷ xs) (all_before size r.kept calls rest h.2)
+    rw (lt-ltb r.kept (suc (length calls)) (omega (arith, kept_within size calls r h.0))) (ap (λ (xs : List Again). r ∷ xs) (all_before size r.kept calls rest h.2))
 
 -- so one call more leads on from where they led
 more_by : (does : Option Again → State → State) (size deepest : ℕ) (rs : List Again) (s : State) (xs : List CallRecord) (x : CallRecord) → AreAgain size 0 xs rs
@@ -144,7 +138,4 @@ again_more size from calls more (r ∷ rest) h = (again_still size calls more r 
 pub all_more : (P : List CallRecord → Type 0) (size from : ℕ) (calls more : List CallRecord) (rs : List Again) → AreAgain size from calls rs → AtEach P calls rs → AtEach P (calls ++ more) rs
 all_more P size from calls more [] h a = tt
 all_more P size from calls more (r ∷ rest) h a =
-    let first = h.0 in
-    let within = is_within calls first.place (slice_get calls first.place) refl first.begins in
-    let k = first.kept in
-    (subst P (sym (take-append-le r.kept calls more (omega arith))) a.0, all_more P size r.kept calls more rest h.2 a.1)
+    (subst P (sym (take-append-le r.kept calls more (kept_within size calls r h.0))) a.0, all_more P size r.kept calls more rest h.2 a.1)

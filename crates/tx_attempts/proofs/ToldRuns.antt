@@ -1,7 +1,7 @@
 -- What has run decides nothing: a run in which it is told otherwise has the same replies, and all else of its states.
 use Rattle.std.proofs.Common.{◌≡◌, ℕ, suc, Bool, true, false, List, [], ◌∷◌, ◌++◌, map, Option, None, Some, refl, sym, ap, subst, ◌∙◌, append-nil, append_assoc, if◌then◌else◌, drop, reverse}
 use Rattle.tx_attempts.proofs.Common.{Abort, Again, Begin, Block, Breaks, Call, CallRecord, Commit, Copy, IsAlone, Mode, Props, Ran, Refusal, Rules, Saved, State, UndoAction, after, after_unless, again_at, answer, arena_set, back_from, breaks_in, breaks_of, closed_actions, closed_in, closed_irrevocable, effect, is_clear, is_open, later, made_irrevocable, opened, or_else, outside, pushed, refusal, reply, reply_unless, rolled_back, run_on, source_bytes, source_range, standing, state_then, target_range, target_written, undone, undone_from, unless, with_action}
-use Rattle.itm_types.specs.declared.call.Action.{Action}
+use Rattle.tx_attempts.proofs.AloneCalls.{open_asked}
 use Rattle.itm_types.specs.declared.copy.CopyPair.{CopyPair}
 use Rattle.itm_types.specs.declared.copy.CopyPair.TheVariants.{Out, In, Within}
 use Rattle.user_actions.specs.Actions.{as_commit, as_undo}
@@ -40,27 +40,20 @@ adds_back : (blocks : List Block) (s : State) → Adds (λ t. back_from t blocks
 adds_back [] s = none_added (λ t. t) s (λ ran. refl)
 adds_back (b ∷ bs) s = adds_rolled bs b.saved s
 
-adds_abort : (outer : Bool) (blocks : List Block) (s : State) → Adds (λ t. if outer then undone_from t blocks else back_from t blocks) s
-adds_abort true blocks s = adds_undone blocks s
-adds_abort false blocks s = adds_back blocks s
+adds_either : (b : Bool) (f g : State → State) (s : State) → Adds f s → Adds g s → Adds (λ t. if b then f t else g t) s
+adds_either true f g s one other = one
+adds_either false f g s one other = other
 
 adds_closed : (blocks : List Block) (s : State) → Adds (λ t. record t { blocks = closed_in blocks; actions = closed_actions blocks t.actions; irrevocable = closed_irrevocable blocks t.irrevocable }) s
 adds_closed [] s = none_added (λ t. record t { blocks = [] }) s (λ ran. refl)
 adds_closed (b ∷ []) s = (map as_commit s.actions.commits, λ ran. refl)
 adds_closed (b ∷ p ∷ bs) s = none_added (λ t. record t { blocks = closed_in (b ∷ p ∷ bs) }) s (λ ran. refl)
 
-adds_irrevocable : (is : Bool) (s : State) → Adds (λ t. if is then t else made_irrevocable t) s
-adds_irrevocable true s = none_added (λ t. t) s (λ ran. refl)
-adds_irrevocable false s = none_added made_irrevocable s (λ ran. refl)
-
-adds_entered : (goes is : Bool) (props : Props) (s : State) → Adds (λ t. if goes then (if is then pushed t props else made_irrevocable (pushed t props)) else pushed t props) s
-adds_entered true true props s = none_added (λ t. pushed t props) s (λ ran. refl)
-adds_entered true false props s = none_added (λ t. made_irrevocable (pushed t props)) s (λ ran. refl)
-adds_entered false is props s = none_added (λ t. pushed t props) s (λ ran. refl)
-
-adds_begin : (within : Bool) (props : Props) (s : State) → within ≡ true → Adds (λ t. if within then (if props.goes_irrevocable then (if s.irrevocable then pushed t props else made_irrevocable (pushed t props)) else pushed t props) else opened t.memory t.arena props) s
-adds_begin true props s e = adds_entered props.goes_irrevocable s.irrevocable props s
-adds_begin false props s e = absurd (cc)
+adds_entered : (is : Bool) (props : Props) (s : State) → Adds (λ t. if props.goes_irrevocable then (if is then pushed t props else made_irrevocable (pushed t props)) else pushed t props) s
+adds_entered is props s =
+    let plain = none_added (λ t. pushed t props) s (λ ran. refl) in
+    adds_either props.goes_irrevocable (λ t. if is then pushed t props else made_irrevocable (pushed t props)) (λ t. pushed t props) s
+    (adds_either is (λ t. pushed t props) (λ t. made_irrevocable (pushed t props)) s plain (none_added (λ t. made_irrevocable (pushed t props)) s (λ ran. refl))) plain
 
 adds_written : (pair : CopyPair) (to : ℕ) (bytes : List ℕ) (s : State) → Adds (λ t. target_written t pair to bytes) s
 adds_written (Out side) to bytes s = none_added (λ t. target_written t (Out side) to bytes) s (λ ran. refl)
@@ -72,17 +65,15 @@ source_told (Out side) from size s ran = refl
 source_told (In side) from size s ran = refl
 source_told (Within a b) from size s ran = refl
 
-adds_undo : (is : Bool) (action : Action) (s : State) → Adds (λ t. if is then t else with_action t kinds.Undo action) s
-adds_undo true action s = none_added (λ t. t) s (λ ran. refl)
-adds_undo false action s = none_added (λ t. with_action t kinds.Undo action) s (λ ran. refl)
-
 adds_effect : (call : Call) (s : State) → is_open s ≡ true → Adds (λ t. effect t call) s
-adds_effect (Begin props room) s o = (let f = adds_begin (is_open s) props s o in (f.0, λ ran. f.1 ran))
+adds_effect (Begin props room) s o =
+    let f = subst (λ (b : Bool). Adds (λ t. if b then (if props.goes_irrevocable then (if s.irrevocable then pushed t props else made_irrevocable (pushed t props)) else pushed t props) else opened t.memory t.arena props) s) (sym o) (adds_entered s.irrevocable props s) in
+    (f.0, λ ran. f.1 ran)
 adds_effect Commit s o = (let f = adds_closed s.blocks s in (f.0, λ ran. f.1 ran))
-adds_effect (Abort outer) s o = (let f = adds_abort outer s.blocks s in (f.0, λ ran. f.1 ran))
-adds_effect (Mode room) s o = (let f = adds_irrevocable s.irrevocable s in (f.0, λ ran. f.1 ran))
+adds_effect (Abort outer) s o = (let f = adds_either outer (λ t. undone_from t s.blocks) (λ t. back_from t s.blocks) s (adds_undone s.blocks s) (adds_back s.blocks s) in (f.0, λ ran. f.1 ran))
+adds_effect (Mode room) s o = (let f = adds_either s.irrevocable (λ t. t) made_irrevocable s (none_added (λ t. t) s (λ ran. refl)) (none_added made_irrevocable s (λ ran. refl)) in (f.0, λ ran. f.1 ran))
 adds_effect (Copy c) s o = (let f = adds_written c.pair c.to (source_bytes s c.pair c.from c.size) s in (f.0, λ ran. ap (λ (bytes : List ℕ). target_written (telling s ran) c.pair c.to bytes) (source_told c.pair c.from c.size s ran) ∙ f.1 ran))
-adds_effect (UndoAction action) s o = (let f = adds_undo s.irrevocable action s in (f.0, λ ran. f.1 ran))
+adds_effect (UndoAction action) s o = (let f = adds_either s.irrevocable (λ t. t) (λ t. with_action t kinds.Undo action) s (none_added (λ t. t) s (λ ran. refl)) (none_added (λ t. with_action t kinds.Undo action) s (λ ran. refl)) in (f.0, λ ran. f.1 ran))
 adds_effect call s o = none_added (λ t. effect t call) s (λ ran. refl)
 
 -- why it is refused does not hang on it
@@ -127,16 +118,12 @@ later_match b c h n s ran = h (suc n) s ran
 pub records_match : (rs : List Again) → Match (breaks_of rs) (breaks_in rs)
 records_match rs n s ran = break_told (again_at rs n) s ran
 
-open_by : (b : Bool) (o : Option Call) (c : Call) → (if b then o else None) ≡ Some c → b ≡ true
-open_by true o c e = refl
-open_by false o c e = absurd (cc)
-
 module _ {P : Type 0} (rules : Rules P) (deepest : ℕ) where
   -- calls that are made alone are so where what has run is told otherwise
   pub alone_told : (b c : Breaks) → Match b c → (p : P) (s : State) (ran : List Ran) (xs : List CallRecord) → IsAlone rules deepest c p s xs → IsAlone rules deepest b p (telling s ran) xs
   alone_told b c h p s ran [] a = tt
   alone_told b c h p s ran (x ∷ xs) a =
-      let f = adds_after deepest x.call s (open_by (is_open s) (rules.next_call p) x.call a.0) in (
+      let f = adds_after deepest x.call s (open_asked (is_open s) (rules.next_call p) x.call a.0) in (
         a.0,
         a.1 ∙ sym (reply_told deepest x.call s ran),
         subst (λ (t : State). IsAlone rules deepest (later b) (rules.answered p x.reply) t xs) (sym (ap (b 1) (f.1 ran) ∙ h 1 (after deepest s x.call) (ran ++ f.0)))
@@ -148,7 +135,7 @@ module _ {P : Type 0} (rules : Rules P) (deepest : ℕ) where
       → (told : List Ran) × (state_then deepest b (telling s ran) xs ≡ telling (state_then deepest c s xs) told)
   state_told b c h p s ran [] a = (ran, refl)
   state_told b c h p s ran (x ∷ xs) a =
-      let f = adds_after deepest x.call s (open_by (is_open s) (rules.next_call p) x.call a.0) in
+      let f = adds_after deepest x.call s (open_asked (is_open s) (rules.next_call p) x.call a.0) in
       let rest = state_told (later b) (later c) (later_match b c h) (rules.answered p x.reply) (c 1 (after deepest s x.call)) (ran ++ f.0) xs a.2 in
       (rest.0, ap (λ (t : State). state_then deepest (later b) t xs) (ap (b 1) (f.1 ran) ∙ h 1 (after deepest s x.call) (ran ++ f.0)) ∙ rest.1)
 

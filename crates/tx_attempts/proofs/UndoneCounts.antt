@@ -36,8 +36,5 @@ module _ (xs : List Again) where
 -- those before so many calls tell of no more than all
 pub before_no_more : (kept : ℕ) (xs : List Again) → count_undone (before kept xs) ≤ count_undone xs
 before_no_more kept [] = omega arith
-before_no_more kept (x ∷ xs) = by_place (nat_lt x.kept kept) (before_no_more kept xs)
-  where
-    by_place : (b : Bool) → count_undone (before kept xs) ≤ count_undone xs → count_undone (if b then x ∷ before kept xs else before kept xs) ≤ count_undone (x ∷ xs)
-    by_place true l = omega arith
-    by_place false l = omega arith
+before_no_more kept (x ∷ xs) = (let rest = before_no_more kept xs in
+    elim (nat_lt x.kept kept) as (λ (b : Bool). count_undone (if b then x ∷ before kept xs else before kept xs) ≤ count_undone (x ∷ xs)) [ true ↦ omega arith | false ↦ omega arith ])

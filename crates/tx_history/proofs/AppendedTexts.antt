@@ -1,8 +1,7 @@
 -- The parts of a history, one after another.
 use Rattle.std.proofs.Common.{◌≡◌, ℕ, ◌+◌, ◌<◌, ◌≤◌, All, List, [], ◌++◌, length, take, drop, Option, sym, subst, get_or, flat_map, rules, arith, decimal}
-use Rattle.tx_history.proofs.Common.{All-more, Carries, Page, Spells, common_steps, encode_lower, encode_with}
-use Rattle.tx_history.proofs.PagedTexts.{carries_none, carries_then}
-use Rattle.tx_history.proofs.TextPieces.{encode_more, take_past}
+use Rattle.tx_history.proofs.Common.{All-more, Carries, Page, Spells, common_steps, encode_lower, encode_with, take_all}
+use Rattle.tx_history.{proofs.PagedTexts.carries_none, proofs.PagedTexts.carries_then, proofs.TextPieces.encode_more}
 
 module _ {W : Type 0} {contents : W → Option (List ℕ)} where
   pub hex_starts : (a : Page W) (bytes : List ℕ) → Carries contents a a (encode_lower (take 0 bytes))
@@ -13,7 +12,7 @@ module _ {W : Type 0} {contents : W → Option (List ℕ)} where
   hex_grown a b c bytes i n p q = subst (Carries contents a c) (sym (encode_more bytes i n)) (carries_then p q)
 
   pub hex_whole : (a b : Page W) (bytes : List ℕ) (i : ℕ) → Carries contents a b (encode_lower (take i bytes)) → length bytes ≤ i → Carries contents a b (encode_lower bytes)
-  hex_whole a b bytes i p h = subst (λ (l : List ℕ). Carries contents a b (encode_lower l)) (take_past i bytes h) p
+  hex_whole a b bytes i p h = subst (λ (l : List ℕ). Carries contents a b (encode_lower l)) (take_all i bytes h) p
 
 -- ## The lines of each one of a list
 

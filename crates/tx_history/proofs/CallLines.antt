@@ -12,9 +12,6 @@ few_dropped m xs = grind (arith, common_steps)
 first_of : {A : Type 0} (xs : List A) (i : ℕ) (d : A) → i < length xs → drop i xs ≡ get_or xs i d ∷ drop (i + 1) xs
 first_of xs i d h = grind (arith, common_steps)
 
-none_left : {A : Type 0} (xs : List A) (i : ℕ) → length xs ≤ i → drop i xs ≡ []
-none_left xs i h = drop_all i xs h
-
 -- so many of the blocks that ran again are told, with the calls up to the last one's begin; these calls are left
 pub record AreTold {W : Type 0} (contents : W → Option (List ℕ)) (a b : Page W) (calls : List CallRecord) (restarts : List Again) (i told : ℕ) (left : List CallRecord) : Type 0 where
   pub text : List ℕ
@@ -54,6 +51,6 @@ module _ {W : Type 0} {contents : W → Option (List ℕ)} where
   pub told_all : (a b c : Page W) (calls : List CallRecord) (restarts : List Again) (i told : ℕ) (left : List CallRecord) → length restarts ≤ i → AreTold contents a b calls restarts i told left
       → Spells contents b c (flat_map call_line left) (All EntryFits left) → Spells contents a c (call_lines 0 calls restarts) (All EntryFits calls × All AgainFits restarts)
   told_all a b c calls restarts i told left l p q = record {
-    carries = carries_as a c _ _ (carries_then p.carries q.carries) (ap (λ (rs : List Again). p.text ++ call_lines told left rs) (sym (none_left restarts i l)) ∙ p.rest);
+    carries = carries_as a c _ _ (carries_then p.carries q.carries) (ap (λ (rs : List Again). p.text ++ call_lines told left rs) (sym (drop_all i restarts l)) ∙ p.rest);
     fits = (p.entries q.fits, subst (All AgainFits) (take_all i restarts l) p.agains);
   }

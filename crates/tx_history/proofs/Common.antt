@@ -1,21 +1,17 @@
 -- The names that more than one proof cites, passed on from one place. Declares nothing.
 unfoldable pub use Rattle.hex.specs.Hex.{encode_with}
 pub use Rattle.hex.specs.Hex.{encode_lower, lower_digits}
-pub use Rattle.itm_model.specs.Machine.{after, after_unless, back, back_from, closed, closed_in, closed_irrevocable, effect, entered, handed, irrevocable_from, is_open, logged, logged_in, made_irrevocable, opened, or_else, outside, pushed, ranges, refusal, reply, rolled_back, saved_in_arena, source_bytes, source_range, standing, target_range, target_written, undone, undone_from, unless, with_action, with_undo, written}
+pub use Rattle.itm_model.proofs.KeptEffects.{after_kept, either_kept, entered_kept, IsKept}
+pub use Rattle.itm_model.specs.Machine.{after, back, back_from, closed, closed_in, closed_irrevocable, entered, handed, is_open, logged_in, made_irrevocable, opened, or_else, outside, pushed, refusal, reply, rolled_back, undone, undone_from, unless, written}
 pub use Rattle.itm_model.specs.Runs.{Breaks, gets_through, later, replies_through, state_through, turn}
 pub use Rattle.itm_model.specs.State.{Block, Saved, State}
-pub use Rattle.itm_types.specs.Access.{size_of}
-pub use Rattle.itm_types.specs.KeptBytes.{also_kept, nothing, restored}
-pub use Rattle.itm_types.specs.Slices.{slice, with_slice}
+pub use Rattle.itm_types.specs.KeptBytes.{also_kept, nothing}
 pub use Rattle.itm_types.specs.declared.access.WriteHint.TheVariants.{W, WaR}
 pub use Rattle.itm_types.specs.declared.call.Call.{Call}
-pub use Rattle.itm_types.specs.declared.call.Call.TheVariants.{Abort, Begin, Commit, CommitAction, Copy, Fill, Load, Log, LogBytes, Mode, Read, Save, UndoAction, Write}
+pub use Rattle.itm_types.specs.declared.call.Call.TheVariants.{Begin, Copy, Fill, Load, Read}
 pub use Rattle.itm_types.specs.declared.call.Props.{Props}
-pub use Rattle.itm_types.specs.declared.call.Refusal.{Refusal}
-pub use Rattle.itm_types.specs.declared.call.Refusal.TheVariants.{NoIrrevocable, OutOfArena, OutOfRange, Outside, Overlap}
+pub use Rattle.itm_types.specs.declared.call.Refusal.TheVariants.{NoIrrevocable, Outside, Overlap}
 pub use Rattle.itm_types.specs.declared.call.Reply.{Reply}
-pub use Rattle.itm_types.specs.declared.copy.CopyPair.{CopyPair}
-pub use Rattle.itm_types.specs.declared.copy.CopyPair.TheVariants.{In, Out, Within}
 pub use Rattle.itm_types.specs.declared.limits.Depth.{Depth}
 pub use Rattle.tx_attempts.specs.Attempts.{alone, calls_of, committed_at, memory_after, memory_left, pair_of}
 pub use Rattle.tx_attempts.specs.Opacity.{after_try, begin_code, begin_of, begin_within, Beginning, Between, EndsAs, follows, IsOpaque, IsRunOf, IsTryAt, ran_of}
@@ -32,7 +28,7 @@ pub use Rattle.tx_history.specs.Legal.{EndsIn, IsAlone, may_begin, memory_at, ra
 pub use Rattle.tx_history.specs.Pages.{Carries, Grows, IsSent, Sheet, Spells}
 pub use Rattle.tx_history.specs.Spelling.{IsCut, Puts, spelled}
 unfoldable pub use Rattle.tx_history.specs.Streams.{Adds}
-pub use Rattle.tx_history.specs.Streams.{Leaves, Sends, Standing}
+pub use Rattle.tx_history.specs.Streams.{Leaves, Sends, StreamState, stream_state}
 pub use Rattle.tx_history.specs.Versions.{depth_of, MayRestart, MayTell, memory_limit, thread_limit}
 pub use Rattle.tx_history.specs.declared.history.History.{History}
 pub use Rattle.tx_history.specs.declared.history.Version.TheVariants.{One, Three, Two}
@@ -43,7 +39,7 @@ pub use Rattle.std.proofs.KnownBytes.{Appends-kept, Appends-nil, Appends-trans, 
 pub use Rattle.std.proofs.Math.Seq.{take-append-add}
 pub use Rattle.std.proofs.lemmas.Fmt.{decimal_digit, decimal_step}
 pub use Rattle.std.proofs.lemmas.Grind.{common_steps}
-pub use Rattle.std.proofs.lemmas.List.{drop-take, drop_all, length-append, length-replicate, length-set, length-take-le, take-append-drop, take-append-le, take-take, take_all}
+pub use Rattle.std.proofs.lemmas.List.{drop-take, drop_all, flat_map_more, length-append, length-set, take-append-drop, take-append-le, take-take, take_all, take_more}
 pub use Rattle.std.proofs.lemmas.List.Elements.{All-append, All-cons, All-more, All-nil}
 pub use Rattle.std.specs.Io.KnownBytes.{Appends, Keeps}
 pub use Rattle.std.specs.List.{flat_map}

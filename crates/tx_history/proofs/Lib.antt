@@ -9,6 +9,7 @@ pub mod RowTexts
 pub mod WorkedLines
 pub mod WorkedStreams
 mod WorkedRestarts
+pub mod SavedBlocks
 pub mod PlainSizes
 pub mod ToldRestarts
 mod WorkedBounds

@@ -93,11 +93,8 @@ module _ {W : Type 0} {contents : W → Option (List ℕ)} where
       carries_as a c _ _ (carries_then p q) (ap (λ (l : List ℕ). x ++ l) (append_assoc y z w) ∙ sym (append_assoc x y (z ++ w)) ∙ sym (append_assoc (x ++ y) z w))
 
   -- nothing more is written
-  carries_end : {a b c : Page W} {x : List ℕ} → Carries contents a b x → Carries contents b c [] → Carries contents a c x
-  carries_end {a} {b} {c} {x} p q = record { same = q.same ∙ p.same; grows = grows_end _ _ _ x p.grows q.grows }
-
   pub spells_end : (a b c : Page W) (x : List ℕ) (typed : Type 0) → Spells contents a b x typed → Carries contents b c [] → Spells contents a c x typed
-  spells_end a b c x typed p q = record { carries = carries_end p.carries q; fits = p.fits }
+  spells_end a b c x typed p q = record { carries = record { same = q.same ∙ p.carries.same; grows = grows_end _ _ _ x p.carries.grows q.grows }; fits = p.fits }
 
   -- what is told as a text ends
   pub closes : {A : Type 0} (w v : Option (List ℕ)) (r : Result A Error) (a b c : Page W) (text : List ℕ)

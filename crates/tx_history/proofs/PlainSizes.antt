@@ -1,9 +1,10 @@
 -- Calls on the plain machine leave the memory and the arena as long as they were, also where blocks run again from arenas of that length.
-use Rattle.std.proofs.Common.{◌≡◌, ℕ, zero, suc, ◌+◌, ◌≤◌, ◌%◌, Bool, true, false, if◌then◌else◌, ◌==◌, List, [], ◌∷◌, ◌++◌, length, take, drop, replicate, map, Option, None, Some, refl, sym, ap, subst, ◌∙◌, arith, length-append, length-drop}
-use Rattle.tx_history.proofs.Common.{Abort, Again, AreAgain, Attempt, Begin, Block, Breaks, Call, CallRecord, Commit, CommitAction, Copy, CopyPair, Fill, History, In, Log, LogBytes, Mode, Out, OutOfArena, OutOfRange, Props, Refusal, Save, Saved, State, UndoAction, Within, Write, after, after_unless, again_at, alone, also_kept, arena_set, back, back_from, breaks_of, calls_of, closed_in, committed_at, depth_of, effect, entered, handed, irrevocable_from, is_open, later, length-replicate, length-take-le, logged_in, made_irrevocable, memory_after, memory_at, memory_left, opened, option_map, or_else, outside, pushed, ranges, refusal, restored, rolled_back, saved_in_arena, size_of, slice, source_bytes, source_range, standing, state_through, target_range, target_written, undone, undone_from, unless, with_action, with_slice, written}
-use Rattle.std.proofs.lemmas.Bool.{leb-true}
+use Rattle.std.proofs.Common.{◌≡◌, ℕ, zero, suc, Bool, true, false, if◌then◌else◌, ◌==◌, List, [], ◌∷◌, length, Option, None, Some, refl, sym, subst, ◌∙◌}
+use Rattle.tx_history.proofs.Common.{Again, AreAgain, Attempt, Block, Breaks, Call, CallRecord, History, IsKept, Props, Saved, State, after, after_kept, again_at, alone, arena_set, back, back_from, breaks_of, calls_of, committed_at, depth_of, either_kept, entered, entered_kept, is_open, later, made_irrevocable, memory_after, memory_at, memory_left, opened, outside, pushed, rolled_back, state_through, undone, undone_from}
 use Rattle.itm_types.specs.declared.call.ActionKind.TheVariants as kinds
-use Rattle.itm_model.specs.Places.{in_range}
+use Rattle.tx_history.proofs.SavedBlocks.{AllSaved, saved_closed, saved_logged, saved_none}
+use Rattle.itm_types.proofs.KeptBytes.{length-restored}
+use Rattle.itm_model.proofs.Journals.Rollbacks.{length-with_slice}
 
 -- what a block goes back to has so many bytes
 abbrev pub IsSavedSized : ℕ → Option Saved → Type 0
@@ -11,8 +12,7 @@ IsSavedSized n None = Unit {0}
 IsSavedSized n (Some saved) = length saved.memory ≡ n
 
 abbrev pub AreSized : ℕ → List Block → Type 0
-AreSized n [] = Unit {0}
-AreSized n (b ∷ bs) = IsSavedSized n b.saved × AreSized n bs
+AreSized n bs = AllSaved (IsSavedSized n) bs
 
 -- the memory has n bytes, also once blocks are rolled back, and of the arena's length this is so
 pub record IsSized (n : ℕ) (K : ℕ → Type 0) (s : State) : Type 0 where
@@ -25,57 +25,7 @@ abbrev pub AreFrom : (ℕ → Type 0) → List Again → Type 0
 AreFrom K [] = Unit {0}
 AreFrom K (a ∷ rest) = K (length a.arena) × AreFrom K rest
 
--- ## Ranges of accepted calls
-
-pub later_none : (first later : Option Refusal) → or_else first later ≡ None → later ≡ None
-later_none None later e = e
-later_none (Some refusal) later e = absurd (cc)
-
-first_none : (first later : Option Refusal) → or_else first later ≡ None → first ≡ None
-first_none None later e = refl
-first_none (Some refusal) later e = absurd (cc)
-
-holds : (b : Bool) (refusal : Refusal) → unless b refusal ≡ None → b ≡ true
-holds true refusal e = refl
-holds false refusal e = absurd (cc)
-
-pub within : (bytes : List ℕ) (at size : ℕ) (why : Refusal) → unless (in_range bytes at size) why ≡ None → at + size ≤ length bytes
-within bytes at size why e = leb-true (at + size) (length bytes) (holds (in_range bytes at size) why e)
-
-pub length-slice : (m : List ℕ) (p n : ℕ) → p + n ≤ length m → length (slice m p n) ≡ n
-length-slice m p n h = length-take-le n (drop p m) (omega (arith, length-drop p m))
-
-length-with_slice : (m : List ℕ) (p : ℕ) (new : List ℕ) → p + length new ≤ length m → length (with_slice m p new) ≡ length m
-length-with_slice m p new h =
-    let b = drop (p + length new) m in
-    let whole : length (with_slice m p new) ≡ length (take p m ++ new) + length b = length-append (take p m ++ new) b in
-    omega (arith, whole, length-append (take p m) new, length-take-le p m (omega arith), length-drop (p + length new) m)
-
-length-restored : (ks : List (Option ℕ)) (arena : List ℕ) → length (restored ks arena) ≡ length arena
-length-restored [] arena = refl
-length-restored (k ∷ ks) [] = refl
-length-restored (k ∷ ks) (byte ∷ bytes) = ap suc (length-restored ks bytes)
-
 module _ (n : ℕ) (K : ℕ → Type 0) where
-  -- ## Writes
-
-  sized_written : (s : State) (at : ℕ) (bytes : List ℕ) → at + length bytes ≤ length s.memory → IsSized n K s → IsSized n K (written s at bytes)
-  sized_written s at bytes l h = record { memory = length-with_slice s.memory at bytes l ∙ h.memory; arena = h.arena; back = h.back }
-
-  sized_saved : (s : State) (at : ℕ) (bytes : List ℕ) → at + length bytes ≤ length s.arena → IsSized n K s → IsSized n K (saved_in_arena s at bytes)
-  sized_saved s at bytes l h = record { memory = h.memory; arena = subst K (sym (length-with_slice s.arena at bytes l)) h.arena; back = h.back }
-
-  as_many : (all new : List ℕ) (at size : ℕ) → length new ≡ size → at + size ≤ length all → at + length new ≤ length all
-  as_many all new at size e l = omega arith
-
-  sized_copied : (s : State) (pair : CopyPair) (to from size : ℕ) → target_range s pair to size ≡ None → source_range s pair from size ≡ None → IsSized n K s → IsSized n K (target_written s pair to (source_bytes s pair from size))
-  sized_copied s (Out side) to from size t r h =
-      sized_written s to (source_bytes s (Out side) from size) (as_many s.memory _ to size (length-slice s.arena from size (within s.arena from size OutOfArena r)) (within s.memory to size OutOfRange t)) h
-  sized_copied s (In side) to from size t r h =
-      sized_saved s to (source_bytes s (In side) from size) (as_many s.arena _ to size (length-slice s.memory from size (within s.memory from size OutOfRange r)) (within s.arena to size OutOfArena t)) h
-  sized_copied s (Within one other) to from size t r h =
-      sized_written s to (source_bytes s (Within one other) from size) (as_many s.memory _ to size (length-slice s.memory from size (within s.memory from size OutOfRange r)) (within s.memory to size OutOfRange t)) h
-
   -- ## Blocks
 
   sized_now : (b : Bool) (saved : Saved) → length saved.memory ≡ n → IsSavedSized n (if b then None else Some saved)
@@ -85,43 +35,14 @@ module _ (n : ℕ) (K : ℕ → Type 0) where
   sized_pushed : (s : State) (props : Props) → IsSized n K s → IsSized n K (pushed s props)
   sized_pushed s props h = record { memory = h.memory; arena = h.arena; back = (sized_now s.irrevocable _ h.memory, h.back) }
 
-  sized_last : (bs : List Block) → AreSized n (map (λ (b : Block). record b { saved = None }) bs)
-  sized_last [] = tt
-  sized_last (b ∷ bs) = (tt, sized_last bs)
-
-  sized_irrevocable : (s : State) → IsSized n K s → IsSized n K (irrevocable_from s)
-  sized_irrevocable s h = by_mode s.irrevocable
-    where
-      by_mode : (b : Bool) → IsSized n K (if b then s else made_irrevocable s)
-      by_mode true = h
-      by_mode false = record { memory = h.memory; arena = h.arena; back = sized_last s.blocks }
+  sized_turned : (s : State) → IsSized n K s → IsSized n K (made_irrevocable s)
+  sized_turned s h = record { memory = h.memory; arena = h.arena; back = saved_none (IsSavedSized n) tt s.blocks }
 
   sized_entered : (s : State) (props : Props) → IsSized n K s → IsSized n K (entered s props)
-  sized_entered s props h = by_props props.goes_irrevocable
-    where
-      by_props : (b : Bool) → IsSized n K (if b then irrevocable_from (pushed s props) else pushed s props)
-      by_props true = sized_irrevocable (pushed s props) (sized_pushed s props h)
-      by_props false = sized_pushed s props h
+  sized_entered s props h = (let p = sized_pushed s props h in entered_kept (IsSized n K) s props p (sized_turned (pushed s props) p))
 
   pub sized_opened : (memory arena : List ℕ) (props : Props) → length memory ≡ n → K (length arena) → IsSized n K (opened memory arena props)
   sized_opened memory arena props m a = sized_entered (outside memory arena) props (record { memory = m; arena = a; back = tt })
-
-  sized_begun : (s : State) (props : Props) → IsSized n K s → IsSized n K (if is_open s then entered s props else opened s.memory s.arena props)
-  sized_begun s props h = by_open (is_open s)
-    where
-      by_open : (b : Bool) → IsSized n K (if b then entered s props else opened s.memory s.arena props)
-      by_open true = sized_entered s props h
-      by_open false = sized_opened s.memory s.arena props h.memory h.arena
-
-  sized_handed : (outer inner : Option Saved) → IsSavedSized n outer → IsSavedSized n (handed outer inner)
-  sized_handed None inner h = tt
-  sized_handed (Some saved) None h = h
-  sized_handed (Some saved) (Some within) h = h
-
-  sized_closed : (bs : List Block) → AreSized n bs → AreSized n (closed_in bs)
-  sized_closed [] h = tt
-  sized_closed (b ∷ []) h = tt
-  sized_closed (b ∷ p ∷ bs) h = (sized_handed p.saved b.saved h.1.0, h.1.1)
 
   sized_rolled : (s : State) (rest : List Block) (o : Option Saved) → IsSavedSized n o → AreSized n rest → IsSized n K s → IsSized n K (rolled_back s rest o)
   sized_rolled s rest None o r h = h
@@ -139,48 +60,24 @@ module _ (n : ℕ) (K : ℕ → Type 0) where
   pub sized_undone : (s : State) → IsSized n K s → IsSized n K (undone s)
   sized_undone s h = sized_undone_from s s.blocks h.back h
 
-  sized_aborted : (s : State) (outer : Bool) → IsSized n K s → IsSized n K (if outer then undone s else back s)
-  sized_aborted s true h = sized_undone s h
-  sized_aborted s false h = sized_back s s.blocks h.back h
-
-  sized_kept : (o : Option Saved) (arena : List ℕ) (place size : ℕ) → IsSavedSized n o → IsSavedSized n (option_map {T = Saved} (λ (saved : Saved). record saved { kept = also_kept saved.kept arena place size }) o)
-  sized_kept None arena place size h = tt
-  sized_kept (Some saved) arena place size h = h
-
-  sized_logged : (bs : List Block) (arena : List ℕ) (place size : ℕ) → AreSized n bs → AreSized n (logged_in bs arena place size)
-  sized_logged [] arena place size h = tt
-  sized_logged (b ∷ bs) arena place size h = (sized_kept b.saved arena place size h.0, h.1)
-
   -- ## Calls
 
-  sized_undo : (s : State) (b : Bool) (t : State) → IsSized n K s → IsSized n K t → IsSized n K (if b then s else t)
-  sized_undo s true t h i = h
-  sized_undo s false t h i = i
-
-  sized_effect : (deepest : ℕ) (s : State) (c : Call) → ranges s c ≡ None → IsSized n K s → IsSized n K (effect s c)
-  sized_effect deepest s (Begin props room) e h = sized_begun s props h
-  sized_effect deepest s Commit e h = record { memory = h.memory; arena = h.arena; back = sized_closed s.blocks h.back }
-  sized_effect deepest s (Abort outer) e h = sized_aborted s outer h
-  sized_effect deepest s (Mode room) e h = sized_irrevocable s h
-  sized_effect deepest s (Write hint at value) e h = sized_written s at value.bytes.items (as_many s.memory value.bytes.items at (size_of value.width) value.sized (within s.memory at (size_of value.width) OutOfRange e)) h
-  sized_effect deepest s (Log width at) e h = record { memory = h.memory; arena = h.arena; back = sized_logged s.blocks s.arena at (size_of width) h.back }
-  sized_effect deepest s (LogBytes at size) e h = record { memory = h.memory; arena = h.arena; back = sized_logged s.blocks s.arena at size h.back }
-  sized_effect deepest s (Copy c) e h =
-      let target : target_range s c.pair c.to c.size ≡ None = first_none _ _ e in
-      let source : source_range s c.pair c.from c.size ≡ None = first_none _ _ (later_none (target_range s c.pair c.to c.size) _ e) in
-      sized_copied s c.pair c.to c.from c.size target source h
-  sized_effect deepest s (Fill hint to byte size) e h = sized_written s to (replicate size (byte % 256)) (as_many s.memory _ to size (length-replicate size (byte % 256)) (within s.memory to size OutOfRange e)) h
-  sized_effect deepest s (CommitAction action) e h = record { memory = h.memory; arena = h.arena; back = h.back }
-  sized_effect deepest s (UndoAction action) e h = sized_undo s s.irrevocable (with_action s kinds.Undo action) h (record { memory = h.memory; arena = h.arena; back = h.back })
-  sized_effect deepest s (Save at value) e h = sized_saved s at value.bytes.items (as_many s.arena value.bytes.items at (size_of value.width) value.sized (within s.arena at (size_of value.width) OutOfArena e)) h
-  sized_effect deepest s c e h = h
+  sized_changed : (s : State) → IsSized n K s → IsKept (IsSized n K) s
+  sized_changed s h = record {
+    here = h;
+    begins = λ props. either_kept (IsSized n K) (is_open s) (entered s props) (opened s.memory s.arena props) (sized_entered s props h) (sized_opened s.memory s.arena props h.memory h.arena);
+    closes = record { memory = h.memory; arena = h.arena; back = saved_closed (IsSavedSized n) (λ saved bytes g. g) s.blocks h.back };
+    undoes = sized_undone s h;
+    backs = sized_back s s.blocks h.back h;
+    turns = sized_turned s h;
+    writes = λ at bytes l. record { memory = length-with_slice s.memory at bytes l ∙ h.memory; arena = h.arena; back = h.back };
+    saves = λ at bytes l. record { memory = h.memory; arena = subst K (sym (length-with_slice s.arena at bytes l)) h.arena; back = h.back };
+    logs = λ place size. record { memory = h.memory; arena = h.arena; back = saved_logged (IsSavedSized n) (λ saved bytes g. g) s.blocks s.arena place size h.back };
+    acts = λ kind action. record { memory = h.memory; arena = h.arena; back = h.back };
+  }
 
   pub sized_after : (deepest : ℕ) (s : State) (c : Call) → IsSized n K s → IsSized n K (after deepest s c)
-  sized_after deepest s c h = by_refusal (refusal deepest s c) refl
-    where
-      by_refusal : (o : Option Refusal) → refusal deepest s c ≡ o → IsSized n K (after_unless o s (effect s c))
-      by_refusal None e = sized_effect deepest s c (later_none (standing deepest s c) (ranges s c) e) h
-      by_refusal (Some why) e = h
+  sized_after deepest s c h = after_kept (IsSized n K) s (sized_changed s h) deepest c
 
   -- ## Blocks that run again
 

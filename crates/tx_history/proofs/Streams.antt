@@ -1,7 +1,6 @@
 -- Texts that a stream writes, one after another.
-use Rattle.std.proofs.Common.{◌≡◌, false, true≢false, refl, ℕ, ◌+◌, ◌<◌, List, [], ◌∷◌, ◌++◌, length, take, Option, None, Some, Result, Ok, Err, sym, ap, ◌∙◌, subst, append-nil, arith, IsErr, OnOk, get_or, flat_map, is_some}
-use Rattle.tx_history.proofs.Common.{Adds, Appends, Appends-kept, Appends-nil, Appends-trans, Attempt, Error, Grows, IsCut, Keeps-refl, Keeps-trans, Leaves, Page, Puts, Sends, Spells, Standing, attempt_lines, common_steps, length-append, result_err, take-append-le}
-use Rattle.tx_history.specs.Streams.{standing}
+use Rattle.std.proofs.Common.{◌≡◌, false, true≢false, refl, ℕ, ◌+◌, ◌<◌, List, [], ◌++◌, length, take, Option, None, Some, Result, Ok, Err, sym, ap, ◌∙◌, subst, append-nil, arith, IsErr, OnOk, get_or, flat_map, is_some}
+use Rattle.tx_history.proofs.Common.{Adds, Appends, Appends-kept, Appends-nil, Appends-trans, Attempt, Error, Grows, IsCut, Keeps-refl, Keeps-trans, Leaves, Page, Puts, Sends, Spells, StreamState, attempt_lines, flat_map_more, length-append, result_err, stream_state, take-append-le, take_more}
 use Rattle.tx_history.proofs.TextPieces.{cut_short}
 
 leaves_nothing : (f : Option Error) (u : Option (List ℕ)) → Leaves f f u u []
@@ -21,29 +20,26 @@ leaves_then (Some d) None h u v w x y p q = absurd p
 leaves_then (Some d) (Some e) None u v w x y p q = absurd q
 leaves_then (Some d) (Some e) (Some f) u v w x y p q = (q.0 ∙ p.0, Keeps-trans u v w p.1 q.1)
 
-leaves_lost : (f : Error) (u : Option (List ℕ)) (y : List ℕ) → Leaves (Some f) (Some f) u u y
-leaves_lost f u y = (refl, Keeps-refl u)
-
 -- nothing is written
-pub adds_nothing : (a : Standing) → Adds a a []
+pub adds_nothing : (a : StreamState) → Adds a a []
 unfolding Adds
 adds_nothing a = leaves_nothing a.fault a.written
 
 -- one text after another
-pub adds_then : (a b c : Standing) (x y : List ℕ) → Adds a b x → Adds b c y → Adds a c (x ++ y)
+pub adds_then : (a b c : StreamState) (x y : List ℕ) → Adds a b x → Adds b c y → Adds a c (x ++ y)
 unfolding Adds
 adds_then a b c x y p q = leaves_then a.fault b.fault c.fault a.written b.written c.written x y p q
 
 -- a stream that has failed loses each text
-pub adds_lost : (a : Standing) (e : Error) (y : List ℕ) → a.fault ≡ Some e → Adds a a y
+pub adds_lost : (a : StreamState) (e : Error) (y : List ℕ) → a.fault ≡ Some e → Adds a a y
 unfolding Adds
-adds_lost a e y failed = subst (λ (f : Option Error). Leaves f f a.written a.written y) (sym failed) (leaves_lost e a.written y)
+adds_lost a e y failed = subst (λ (f : Option Error). Leaves f f a.written a.written y) (sym failed) (refl, Keeps-refl a.written)
 
 -- where a write has failed, what is written is a beginning of more too
-pub adds_failed : (a b : Standing) (e : Error) (x y : List ℕ) → Adds a b x → b.fault ≡ Some e → Adds a b (x ++ y)
+pub adds_failed : (a b : StreamState) (e : Error) (x y : List ℕ) → Adds a b x → b.fault ≡ Some e → Adds a b (x ++ y)
 adds_failed a b e x y p failed = adds_then a b b x y p (adds_lost b e y failed)
 
-pub adds_as : (a b : Standing) (x y : List ℕ) → Adds a b x → x ≡ y → Adds a b y
+pub adds_as : (a b : StreamState) (x y : List ℕ) → Adds a b x → x ≡ y → Adds a b y
 adds_as a b x y p e = subst (Adds a b) e p
 
 grown_leaves : (w v : Option (List ℕ)) (g : Option Error) (p q x : List ℕ) → p ≡ [] → q ≡ [] → Grows (record { failed = false; written = w; page = p }) (record { failed = is_some g; written = v; page = q }) x → Leaves None g w v x
@@ -53,7 +49,7 @@ grown_leaves w v (Some e) p q x h k c =
     (c.goes.0, subst (λ (l : List ℕ). c.goes.0 < length l) all c.goes.1, subst (Appends w v) (c.goes.2 ∙ ap (take c.goes.0) all) c.written)
 
 -- a stream that had not failed, which began on an empty page and ended on one, has written a text
-adds_grown : (a b : Standing) (w : Option (List ℕ)) (f : Option Error) (p q x : List ℕ) → a.fault ≡ None → w ≡ a.written → f ≡ a.fault → p ≡ [] → q ≡ []
+adds_grown : (a b : StreamState) (w : Option (List ℕ)) (f : Option Error) (p q x : List ℕ) → a.fault ≡ None → w ≡ a.written → f ≡ a.fault → p ≡ [] → q ≡ []
     → Grows (record { failed = is_some f; written = w; page = p }) (record { failed = is_some b.fault; written = b.written; page = q }) x → Adds a b x
 unfolding Adds
 adds_grown a b w f p q x fresh first same h k c =
@@ -70,7 +66,7 @@ module _ {W A : Type 0} {contents : W → Option (List ℕ)} where
   pub sends_refused : (a : Page W) (r : Result A Error) (e : Error) (text : List ℕ) (typed : Type 0) → a.error ≡ Some e → r ≡ Err e → Sends contents a a text typed r
   sends_refused a r e text typed failed told = record {
     same = refl;
-    adds = adds_lost (standing contents a) e text failed;
+    adds = adds_lost (stream_state contents a) e text failed;
     answer = failed ∙ sym (ap (result_err {T = A} {E = Error}) told);
     fits = subst (λ (q : Result A Error). OnOk q typed) (sym told) (record {});
   }
@@ -81,7 +77,7 @@ module _ {W A : Type 0} {contents : W → Option (List ℕ)} where
       → Spells contents p b text typed → result_err r ≡ b.error → Sends contents a b text typed r
   sends_grown a b p r text typed fresh name kept first last q told = record {
     same = q.carries.same ∙ name;
-    adds = adds_grown (standing contents a) (standing contents b) _ _ _ _ text fresh (ap contents kept.0) kept.1 first last q.carries.grows;
+    adds = adds_grown (stream_state contents a) (stream_state contents b) _ _ _ _ text fresh (ap contents kept.0) kept.1 first last q.carries.grows;
     answer = sym told;
     fits = on_ok r q.fits;
   }
@@ -90,49 +86,27 @@ told_as_put : {A : Type 0} (r : Result A Error) (u v : Option (List ℕ)) (x : L
 told_as_put (Ok a) u v x p = p
 told_as_put (Err f) u v x p = p
 
--- what its caller tells of it
-pub put_added : {A : Type 0} (a b : Standing) (r : Result A Error) (x : List ℕ) → Adds a b x → a.fault ≡ None → b.fault ≡ result_err r → Puts a.written b.written r x
-unfolding Adds
-put_added a b r x p fresh told =
-    let from_none = subst (λ (f : Option Error). Leaves f b.fault a.written b.written x) fresh p in
-    told_as_put r a.written b.written x (subst (λ (f : Option Error). Leaves None f a.written b.written x) told from_none)
-
--- one that was new then, as its writer has it afterwards
-pub put_through : {A : Type 0} (w v : Option (List ℕ)) (a b : Standing) (r : Result A Error) (x : List ℕ)
+-- of one that was new, what its caller tells, as its writer has it afterwards
+pub put_through : {A : Type 0} (w v : Option (List ℕ)) (a b : StreamState) (r : Result A Error) (x : List ℕ)
     → Adds a b x → a ≡ record { written = w; fault = None } → b.fault ≡ result_err r → v ≡ b.written → Puts w v r x
+unfolding Adds
 put_through w v a b r x p fresh told last =
-    let put = put_added a b r x p (ap (λ (s : Standing). s.fault) fresh) told in
-    subst (λ (u : Option (List ℕ)). Puts u v r x) (ap (λ (s : Standing). s.written) fresh) (subst (λ (u : Option (List ℕ)). Puts a.written u r x) (sym last) put)
+    let began = subst (λ (s : StreamState). Leaves s.fault b.fault s.written b.written x) fresh p in
+    let ended = subst (λ (f : Option Error). Leaves None f w b.written x) told began in
+    subst (λ (u : Option (List ℕ)). Puts w u r x) (sym last) (told_as_put r w b.written x ended)
 
 told_as_cut : {A E : Type 0} (r : Result A E) (u v : Option (List ℕ)) (x : List ℕ) → IsErr r → IsCut u v x → Puts u v r x
 told_as_cut (Ok a) u v x failed p = absurd (true≢false (sym failed))
 told_as_cut (Err e) u v x failed p = p
 
 -- one whose caller stops where a write has failed, and tells some error
-pub cut_through : {A E : Type 0} (w v : Option (List ℕ)) (a b : Standing) (r : Result A E) (e : Error) (x : List ℕ)
+pub cut_through : {A E : Type 0} (w v : Option (List ℕ)) (a b : StreamState) (r : Result A E) (e : Error) (x : List ℕ)
     → Adds a b x → a ≡ record { written = w; fault = None } → b.fault ≡ Some e → v ≡ b.written → IsErr r → Puts w v r x
 cut_through w v a b r e x p fresh failed last told =
     told_as_cut r w v x told (put_through {A = Unit {0}} w v a b (Err e) x p fresh failed last)
 
--- ## The lines of attempts, after what stands before them
-
-more_lines : (before : List ℕ) (xs : List Attempt) (x : Attempt) → before ++ flat_map attempt_lines (xs ++ x ∷ []) ≡ (before ++ flat_map attempt_lines xs) ++ attempt_lines x
-more_lines before xs x = grind (arith, common_steps)
-
--- one more has ended
-pub adds_ended : (a b c : Standing) (before : List ℕ) (xs : List Attempt) (x : Attempt)
-    → Adds a b (before ++ flat_map attempt_lines xs) → Adds b c (attempt_lines x) → Adds a c (before ++ flat_map attempt_lines (xs ++ x ∷ []))
-adds_ended a b c before xs x p q = subst (Adds a c) (sym (more_lines before xs x)) (adds_then a b c _ _ p q)
-
-next_taken : (xs : List Attempt) (i : ℕ) (d : Attempt) → i < length xs → take (i + 1) xs ≡ take i xs ++ get_or xs i d ∷ []
-next_taken xs i d h = grind (arith, common_steps)
-
--- the next one of those that there are
-pub adds_after : (a b c : Standing) (before : List ℕ) (all : List Attempt) (i : ℕ) (d : Attempt)
-    → i < length all → Adds a b (before ++ flat_map attempt_lines (take i all)) → Adds b c (attempt_lines (get_or all i d)) → Adds a c (before ++ flat_map attempt_lines (take (i + 1) all))
-adds_after a b c before all i d h p q =
-    subst (λ (l : List Attempt). Adds a c (before ++ flat_map attempt_lines l)) (sym (next_taken all i d h)) (adds_ended a b c before (take i all) (get_or all i d) p q)
-
-pub adds_attempt : (a b c : Standing) (all : List Attempt) (i : ℕ) (d : Attempt)
+-- the next one of some attempts
+pub adds_attempt : (a b c : StreamState) (all : List Attempt) (i : ℕ) (d : Attempt)
     → i < length all → Adds a b (flat_map attempt_lines (take i all)) → Adds b c (attempt_lines (get_or all i d)) → Adds a c (flat_map attempt_lines (take (i + 1) all))
-adds_attempt a b c all i d h p q = adds_after a b c [] all i d h p q
+adds_attempt a b c all i d h p q =
+    subst (λ (l : List Attempt). Adds a c (flat_map attempt_lines l)) (sym (take_more all i d h)) (subst (Adds a c) (flat_map_more attempt_lines [] (take i all) (get_or all i d)) (adds_then a b c _ _ p q))

@@ -1,9 +1,6 @@
 -- Writing the bytes of a text.
 use Rattle.std.proofs.Common.{◌≡◌, ℕ, ◌+◌, ◌/◌, ◌%◌, ◌<◌, ◌≤◌, List, [], ◌∷◌, ◌++◌, length, take, drop, Option, Result, refl, sym, ap, ◌∙◌, arith, subst, slice_index}
-use Rattle.tx_history.proofs.Common.{Appends, Appends-kept, Appends-nil, Appends-trans, IsCut, Keeps, Puts, common_steps, drop-take, encode_lower, encode_with, length-append, lower_digits, take-append-add, take-append-drop, take-append-le, take-take}
-
-pub take_past : (n : ℕ) (xs : List ℕ) → length xs ≤ n → take n xs ≡ xs
-take_past n xs h = grind (arith, common_steps)
+use Rattle.tx_history.proofs.Common.{Appends, Appends-kept, Appends-nil, Appends-trans, IsCut, Keeps, Puts, drop-take, encode_lower, encode_with, length-append, lower_digits, take-append-add, take-append-drop, take-append-le, take-take, take_all}
 
 take_more : (text : List ℕ) (i n : ℕ) → take (i + n) text ≡ take i text ++ take n (drop i text)
 take_more text i n =
@@ -19,7 +16,7 @@ pub stays : (a b c : Option (List ℕ)) (text : List ℕ) (i : ℕ) → Appends 
 stays a b c text i p h q = (i, h, Appends-kept a b c _ p q)
 
 pub whole : (a b : Option (List ℕ)) (text : List ℕ) (i : ℕ) → Appends a b (take i text) → length text ≤ i → Appends a b text
-whole a b text i p h = subst (Appends a b) (take_past i text h) p
+whole a b text i p h = subst (Appends a b) (take_all i text h) p
 
 encode_append : (xs ys : List ℕ) → encode_lower (xs ++ ys) ≡ encode_lower xs ++ encode_lower ys
 unfolding encode_with

@@ -1,6 +1,7 @@
 -- Worked copies and fills with their lines, by computation.
 use Rattle.std.proofs.Common.{◌≡◌, List, ℕ, [], ◌∷◌, ◌++◌, refl, arith, false, true, codes, decimal}
-use Rattle.tx_history.proofs.Common.{Copy, Fill, In, Out, Outside, Overlap, W, WaR, Within, body_text, call_line, copy_text, decimal_digit, decimal_step, fill_text, reply_text}
+use Rattle.tx_history.proofs.Common.{Copy, Fill, Outside, Overlap, W, WaR, body_text, call_line, copy_text, decimal_digit, decimal_step, fill_text, reply_text}
+use Rattle.itm_types.specs.declared.copy.CopyPair.TheVariants.{In, Out, Within}
 use Rattle.itm_types.specs.declared.call.Reply.TheVariants.{Done, Refused}
 use Rattle.itm_types.specs.declared.copy.SharedSide.TheVariants.{T, TaR, TaW}
 

@@ -1,11 +1,11 @@
 -- Texts that a stream is given, with what its writer then holds, by computation.
 use Rattle.std.proofs.Common.{refl, ℕ, List, [], ◌∷◌, None, Some, arith}
-use Rattle.tx_history.proofs.Common.{Adds, Error, Standing, common_steps}
+use Rattle.tx_history.proofs.Common.{Adds, Error, StreamState, common_steps}
 
-abbrev good : List ℕ → Standing
+abbrev good : List ℕ → StreamState
 good bytes = record { written = Some bytes; fault = None }
 
-abbrev failed : Error → List ℕ → Standing
+abbrev failed : Error → List ℕ → StreamState
 failed e bytes = record { written = Some bytes; fault = Some e }
 
 written : Adds (good (1 ∷ [])) (good (1 ∷ 2 ∷ 3 ∷ [])) (2 ∷ 3 ∷ [])

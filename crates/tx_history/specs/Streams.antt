@@ -14,12 +14,12 @@ abbrev pub fault_of : {W : Type 0} → Page W → Option Error
 fault_of s = s.error
 
 -- what a stream is to its callers: what its writer holds, and its fault
-pub record Standing : Type 0 where
+pub record StreamState : Type 0 where
   pub written : Option (List ℕ)
   pub fault : Option Error
 
-abbrev pub standing : {W : Type 0} → (W → Option (List ℕ)) → Page W → Standing
-standing contents s = record { written = contents s.writer.now; fault = fault_of s }
+abbrev pub stream_state : {W : Type 0} → (W → Option (List ℕ)) → Page W → StreamState
+stream_state contents s = record { written = contents s.writer.now; fault = fault_of s }
 
 -- the reference through which it writes
 abbrev pub lent : {W : Type 0} → Page W → ℕ
@@ -33,13 +33,13 @@ Leaves (Some first) None old new text = ⊥
 Leaves (Some first) (Some fault) old new text = (fault ≡ first) × Keeps old new
 
 -- The text is written, and no write has failed; or a write has, and what is written is a beginning of the text and not all of it. A stream that had failed before stays as it was. So texts may follow one another: what two leave after one another is what the one text of both leaves.
-unfoldable pub Adds : Standing → Standing → List ℕ → Type 0
+unfoldable pub Adds : StreamState → StreamState → List ℕ → Type 0
 Adds old new text = Leaves old.fault new.fault old.written new.written text
 
 -- A call writes the text to the stream, and answers the error of the write that failed, if one has; else what the text tells are numbers and bytes of their types. The stream's writer is the one that it was.
 pub record Sends {W A : Type 0} (contents : W → Option (List ℕ)) (old new : Page W) (text : List ℕ) (typed : Type 0) (result : Result A Error) : Type 0 where
   pub same : lent new ≡ lent old
-  pub adds : Adds (standing contents old) (standing contents new) text
+  pub adds : Adds (stream_state contents old) (stream_state contents new) text
   pub answer : fault_of new ≡ result_err result
   pub fits : OnOk result typed
 

@@ -4,7 +4,7 @@ ghost use Rattle.std.specs.Prelude.{◌≡◌, None};
 ghost use Rattle.hex.specs.Hex.{IsBytes};
 ghost use Rattle.tx_history.specs.Bounds.{AttemptFits, IsWord};
 ghost use Rattle.tx_history.specs.Histories.{attempt_lines, first_lines, last_line};
-ghost use Rattle.tx_history.specs.Streams.{Sends, lent, standing};
+ghost use Rattle.tx_history.specs.Streams.{Sends, lent, stream_state};
 
 use crate::attempts::write_attempt;
 use crate::history::Version;
@@ -21,7 +21,7 @@ impl<'a, W: Write> Page<'a, W> {
     /// A history of which nothing is written.
     pub fn new(writer: &'a mut W) -> Self
         ensures same { lent result ≡ writer.entry.ghost_name }
-        ensures nothing { standing W.contents result ≡ record { written = W.contents writer.old; fault = None } }
+        ensures nothing { stream_state W.contents result ≡ record { written = W.contents writer.old; fault = None } }
     {
         Page::empty(writer)
     }

@@ -1,19 +1,13 @@
 -- A pass that gives a part to each worker.
 use Rattle.std.proofs.Common.{◌≡◌, ℕ, ◌+◌, ◌-◌, ◌<◌, false, List, replicate, sym, ap, subst, ◌∙◌, arith}
 use Rattle.tx_host.proofs.Common.{IsFor, IsReady, IsUnused, Limits, Listing, Ready, View, view_of}
-use Rattle.norec_core.specs.Core.{Core}
-use Rattle.worker_rules.specs.Gates.{Gating}
+use Rattle.norec_core.{specs.Core.Core, specs.Core.in_transaction, specs.Core.opening}
+use Rattle.worker_rules.{specs.Gates.Gating, specs.Worked.Worked, specs.Works.Works}
 use Rattle.report_rules.specs.Fresh.{IsFresh, MayBegin, code_of}
-use Rattle.shared_words.specs.declared.pass.Pass.{Pass}
+use Rattle.shared_words.{specs.declared.pass.Pass.Pass, specs.InGlobal.Words, specs.Views.cut_left, specs.Views.cut_right}
 use Rattle.call_rules.specs.Standing.{Standing}
-use Rattle.script_vm.specs.Threads.{Thread, opening as script_opening, thread_rules}
-use Rattle.shared_words.specs.InGlobal.{Words}
-use Rattle.worker_rules.specs.Worked.{Worked}
-use Rattle.worker_rules.specs.Works.{Works}
+use Rattle.script_vm.{specs.Threads.Thread, specs.Threads.opening as script_opening, specs.Threads.thread_rules, specs.Threads.depth_of}
 use Rattle.tx_host.specs.declared.start.WorksOn.{WorksOn}
-use Rattle.norec_core.specs.Core.{in_transaction, opening}
-use Rattle.shared_words.specs.Views.{cut_left, cut_right}
-use Rattle.script_vm.specs.Threads.{depth_of}
 
 module _ (s v w : View) (same : v ≡ record s { share = v.share }) (cut : w ≡ cut_left v) where
   pub cut_same : w ≡ record s { share = w.share }

@@ -1,8 +1,7 @@
 -- From what each commit does to the bytes that all have left.
 use Rattle.std.proofs.Common.{◌≡◌, ◌∙◌, ℕ, zero, suc, ◌+◌, ◌-◌, ◌*◌, ◌<◌, ◌≤◌, List, [], ◌∷◌, length, ap, refl, subst, sym, arith}
 use Rattle.tx_map.proofs.Common.{EachPuts, HasOnlyPairs, HasPair, HasPut, Put, PutsPair, StartsWith, View, bytes_in, bytes_of, memory_at}
-use Rattle.shared_words.proofs.ListPlaces.{starts_le}
-use Rattle.shared_words.proofs.StoredWords.{memory_stays}
+use Rattle.shared_words.{proofs.ListPlaces.starts_le, proofs.StoredWords.memory_stays}
 use Rattle.tx_map.proofs.Pairs.{KeepsPairs, put_there}
 
 -- ## A view that has seen more

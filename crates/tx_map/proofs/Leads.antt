@@ -3,8 +3,7 @@ use Rattle.std.proofs.Common.{◌≡◌, ◌∙◌, ◌||◌, ℕ, suc, Bool, tr
 use Rattle.tx_map.proofs.Common.{Does, Failed, HasLed, IfOk-weaker, IsPlain, IsPlainRun, KeepsBody, Lent, Makings, MutBor, Standing, Words, begun_at, bytes_of, calls_of, state_after, view_of}
 use Rattle.std.specs.Fn.{Called, CalledAtMut, Mut}
 use Rattle.call_rules.specs.Ties.{memory_of}
-use Rattle.transactions.specs.declared.stopped.Stopped.{Stopped}
-use Rattle.transactions.specs.declared.tried.Done.{Done}
+use Rattle.transactions.{specs.declared.stopped.Stopped.Stopped, specs.declared.tried.Done.Done}
 use Rattle.tx_map.proofs.Machines.{committed_memory, committed_wrote}
 
 or_none : (b : Bool) → (b || false) ≡ b

@@ -5,9 +5,7 @@ use Rattle.call_rules.specs.CallResults.{Tells}
 use Rattle.itm_runtime.specs.declared.stop.Stop.{Stop}
 use Rattle.transactions.proofs.Deeds.{makes_then}
 use Rattle.typed_cells.specs.Reads.{read_as}
-use Rattle.tx_map.proofs.Bytes.{pair_read}
-use Rattle.tx_map.proofs.Finds.{Reads}
-use Rattle.tx_map.proofs.Machines.{goes_by_read, goes_by_write, parted}
+use Rattle.tx_map.{proofs.Bytes.pair_read, proofs.Finds.Reads, proofs.Machines.goes_by_read, proofs.Machines.goes_by_write, proofs.Machines.parted}
 
 pub goes_weaker : (a : Bool) (So Then : List ℕ → List ℕ → Type 0) (s t : State) → ((m n : List ℕ) → So m n → Then m n) → Goes a So s t → Goes a Then s t
 goes_weaker a So Then s t by g = record { so = by s.memory t.memory g.so; wrote = g.wrote; still = g.still }

@@ -1,11 +1,9 @@
 -- From what each thread has written to the bytes that all threads leave.
 use Rattle.std.proofs.Common.{◌≡◌, ◌∙◌, ◌⊎◌, inl, inr, ℕ, zero, suc, ◌+◌, ◌-◌, ◌*◌, ◌/◌, ◌%◌, ◌==◌, ◌<◌, ◌≤◌, Bool, true, false, List, [], ◌∷◌, ◌++◌, length, Option, None, Some, IsSome, IfSome, unwrap_or, ap, refl, subst, sym, true≢false, arith, length-append}
 use Rattle.tx_map.proofs.Common.{AllTell, EachPuts, HasAllPairs, HasOnlyPairs, HasPair, HasWritten, HasWrittenIn, HasWrittenSome, IsEmpty, MutBor, Put, PutsPair, StartsWith, Stores, View, Words, added_in, bytes_in, bytes_of, cases_lt, eq-eqb, eqb-true, positions, sum_by-cons, times, told_in_all, view_of}
-use Rattle.std.specs.List.{flat_map}
-use Rattle.std.proofs.Math.Seq.{take-length}
+use Rattle.std.{specs.List.flat_map, proofs.Math.Seq.take-length}
 use denote.Param.Members.{Shared}
-use Rattle.shared_words.proofs.PositionTotals.{count_is}
-use Rattle.shared_words.specs.Commits.{after}
+use Rattle.shared_words.{proofs.PositionTotals.count_is, specs.Commits.after}
 use Rattle.transactions.specs.declared.client.Client.{Client}
 use Rattle.tx_threads.specs.Threads.{AllBegin, EachHasRun, HasRun, HaveRun}
 use Rattle.tx_map.proofs.Added.{AllPut, all_append, all_of_each, as_many_new}

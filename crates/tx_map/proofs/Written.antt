@@ -1,8 +1,7 @@
 -- What a thread's own commits have done, transaction by transaction.
 use Rattle.std.proofs.Common.{◌≡◌, ◌∙◌, ℕ, suc, ◌+◌, ◌*◌, ◌<◌, Bool, true, false, true≢false, List, [], ◌∷◌, ◌++◌, length, Option, Some, Result, Ok, Err, IfOk, ap, refl, subst, sym, arith, append_assoc, append-nil, length-append}
 use Rattle.tx_map.proofs.Common.{Added, Again, EachPuts, Failed, Full, HasGot, HasLed, HasPut, HasWritten, HasWrittenIn, HasWrittenSome, IsKept, IsLeft, Lent, Put, View, added_in, added_of, is_put, mine_left, mine_of, positions, view_of, went_on, went_self}
-use Rattle.std.proofs.lemmas.Option.{none-some, same_Some}
-use Rattle.std.specs.Result.{result_ok}
+use Rattle.std.{proofs.lemmas.Option.none-some, proofs.lemmas.Option.same_Some, specs.Result.result_ok}
 use Rattle.call_rules.specs.Served.{mine_if}
 use Rattle.transactions.specs.declared.tried.Done.{Done}
 use Rattle.tx_map.proofs.Histories.{each_later}

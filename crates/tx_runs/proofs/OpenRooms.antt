@@ -1,10 +1,9 @@
 -- The room of an open attempt serves whatever comes of an answer.
 use Rattle.std.proofs.Common.{◌≡◌, Bool, true, false, if◌then◌else◌, ℕ, ◌+◌, ◌<◌, ◌≤◌, max, List, [], ◌∷◌, drop, length, Option, None, Some, is_some, unwrap_or, Result, Ok, Err, OnErr, refl, ap, arith}
 use Rattle.tx_runs.proofs.Common.{Attempt, Begin, Call, Code, Current, Done, Outside, Props, Replied as Reply, Stage, begins_again, open_after, open_by, outside, promised, stage_at, stage_of}
-use Rattle.tx_attempts.specs.declared.attempt.CallRecord.{CallRecord}
+use Rattle.tx_attempts.{specs.declared.attempt.CallRecord.CallRecord, specs.Kept.Kept, specs.Kept.reserved}
 use Rattle.norec_core.specs.Core.{Core}
 use Rattle.itm_types.specs.Calls.{abort_of, is_begin, is_commit}
-use Rattle.tx_attempts.specs.Kept.{Kept, reserved}
 
 -- ## Where memory is refused
 

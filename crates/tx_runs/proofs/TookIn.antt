@@ -3,11 +3,10 @@ use Rattle.std.proofs.Common.{◌≡◌, ◌⊎◌, inl, inr, ℕ, ◌+◌, Bool
 use Rattle.tx_runs.proofs.Common.{Attempt, Call, Done, Replied, Rules, Stage, Stand, Taken, Tally, begins, cut_back, ending_as, entered, gone_back, outside, over_as, ran_on, savepoints_after, sent_back, stage_with, took_in, went_on, with_call, within}
 use Rattle.norec_core.specs.declared.answer.Answer.{Answer}
 use Rattle.norec_core.specs.declared.answer.Answer.TheVariants.{Busy, Committed, Conflict, Full, Reply, Restarted}
-use Rattle.tx_attempts.specs.declared.attempt.Outcome.{Outcome}
-use Rattle.tx_runs.specs.declared.savepoint.Savepoint.{Savepoint}
-use Rattle.tx_attempts.specs.declared.attempt.Outcome.TheVariants as outcomes
-use Rattle.tx_runs.specs.declared.ending.End.TheVariants.{GaveUp}
 use Rattle.norec_core.specs.Restarts.{IsRestart}
+use Rattle.tx_attempts.specs.declared.attempt.Outcome.{Outcome}
+use Rattle.tx_runs.{specs.declared.savepoint.Savepoint.Savepoint, specs.declared.ending.End.TheVariants.GaveUp}
+use Rattle.tx_attempts.specs.declared.attempt.Outcome.TheVariants as outcomes
 
 -- an attempt is open: the one that was, with a reply to its call; or the one whose begin was accepted; or the one that was, as its innermost block has gone back
 abbrev pub OpensBy : Stage → Call → Answer → Stand → Attempt → List Savepoint → Type 0
@@ -16,32 +15,42 @@ OpensBy g call (Reply reply) s row points = ((old : Attempt) × (at : List Savep
 OpensBy g call (Restarted clock word) s row points = (old : Attempt) × (g ≡ within old points) × (row ≡ cut_back points s.arena s.ran old)
 OpensBy g call _ s row points = ⊥
 
--- none is over, or the one that was open
-abbrev pub EndedIn : Stage → List Attempt → Type 0
-EndedIn g over = (over ≡ []) ⊎ ((old : Attempt) × (at : List Savepoint) × (now : Attempt) × (g ≡ within old at) × (over ≡ now ∷ []) × (now.thread ≡ old.thread))
+-- how an attempt has ended that is over by it
+abbrev pub outcome_by : Answer → Outcome
+outcome_by (Reply reply) = outcomes.Cancelled
+outcome_by (Committed at wrote) = if wrote then outcomes.Committed else outcomes.ReadOnly
+outcome_by (Full at) = outcomes.Full
+outcome_by answer = outcomes.Conflict
+
+-- none is over, or the one that was open, with this outcome and position
+abbrev pub EndedIn : Stage → Outcome → ℕ → List Attempt → Type 0
+EndedIn g outcome at over = (over ≡ []) ⊎ ((old : Attempt) × (points : List Savepoint) × (now : Attempt) × (g ≡ within old points) × (over ≡ now ∷ []) × (now.thread ≡ old.thread) × (now.outcome ≡ outcome) × (now.at ≡ at))
+
+-- a try that came to nothing: the last one, or not
+abbrev pub tried_as : {P : Type 0} → Bool → Tally P → List Attempt → Taken P
+tried_as b t over = if b then record { tally = record t { stage = outside }; over = over; end = Some GaveUp } else record { tally = record t { nth = t.nth + 1; stage = outside }; over = over; end = None }
 
 -- by the stage before
 pub record IsTaken {P : Type 0} (g : Stage) (call : Call) (answer : Answer) (s : Stand) (taken : Taken P) : Type 0 where
   pub idle : g ≡ outside → taken.tally.stage ≡ outside
   pub begun : (IsRestart answer → (row : Attempt) → g ≡ begins row → ⊥) → (row : Attempt) → taken.tally.stage ≡ begins row → ⊥
   pub still : (row : Attempt) (points : List Savepoint) → taken.tally.stage ≡ within row points → (taken.over ≡ []) × (taken.end ≡ None) × OpensBy g call answer s row points
-  pub over : EndedIn g taken.over
+  pub over : EndedIn g (outcome_by answer) s.at taken.over
   pub end : (taken.end ≡ None) ⊎ (taken.end ≡ Some GaveUp)
 
-over_ended : (outcome : Outcome) (s : Stand) (g : Stage) → EndedIn g (over_as outcome s g)
-over_ended outcome s (within row at) = inr (row, at, ending_as outcome s row, refl, refl, refl)
+over_ended : (outcome : Outcome) (s : Stand) (g : Stage) → EndedIn g outcome s.at (over_as outcome s g)
+over_ended outcome s (within row at) = inr (row, at, ending_as outcome s row, refl, refl, refl, refl, refl)
 over_ended outcome s g = inl refl
 
-with_ended : (outcome : Outcome) (s : Stand) (call : Call) (reply : Replied) (g : Stage) → EndedIn g (over_as outcome s (stage_with call reply g))
-with_ended outcome s call reply (within row at) = inr (row, at, ending_as outcome s (with_call call reply row), refl, refl, refl)
+with_ended : (outcome : Outcome) (s : Stand) (call : Call) (reply : Replied) (g : Stage) → EndedIn g outcome s.at (over_as outcome s (stage_with call reply g))
+with_ended outcome s call reply (within row at) = inr (row, at, ending_as outcome s (with_call call reply row), refl, refl, refl, refl, refl)
 with_ended outcome s call reply g = inl refl
 
 module _ {P : Type 0} (call : Call) (s : Stand) where
-  shut : (g : Stage) (answer : Answer) (taken : Taken P) → taken.tally.stage ≡ outside → EndedIn g taken.over → (taken.end ≡ None) ⊎ (taken.end ≡ Some GaveUp) → IsTaken g call answer s taken
+  shut : (g : Stage) (answer : Answer) (taken : Taken P) → taken.tally.stage ≡ outside → EndedIn g (outcome_by answer) s.at taken.over → (taken.end ≡ None) ⊎ (taken.end ≡ Some GaveUp) → IsTaken g call answer s taken
   shut g answer taken out over end = record { idle = λ e. out; begun = λ none row e. cc; still = λ row points e. absurd (cc); over = over; end = end }
 
-  tried_taken : (g : Stage) (answer : Answer) (b : Bool) (t : Tally P) (over : List Attempt) → EndedIn g over
-      → IsTaken g call answer s (if b then record { tally = record t { stage = outside }; over = over; end = Some GaveUp } else record { tally = record t { nth = t.nth + 1; stage = outside }; over = over; end = None })
+  tried_taken : (g : Stage) (answer : Answer) (b : Bool) (t : Tally P) (over : List Attempt) → EndedIn g (outcome_by answer) s.at over → IsTaken g call answer s (tried_as b t over)
   tried_taken g answer true t over ended = shut g answer _ refl ended (inr refl)
   tried_taken g answer false t over ended = shut g answer _ refl ended (inl refl)
 

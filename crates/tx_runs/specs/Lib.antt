@@ -9,3 +9,5 @@ pub mod OpenBegins
 pub mod OpenTries
 pub mod Restarts
 pub mod Ranks
+pub mod CallRooms
+pub mod Answers

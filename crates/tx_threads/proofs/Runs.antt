@@ -1,11 +1,8 @@
 -- What one thread, two rows of them, and all of them come to.
 use Rattle.std.proofs.Common.{◌≡◌, ◌∙◌, slice_get, Some, ℕ, zero, suc, ◌+◌, false, List, [], ◌∷◌, ◌++◌, length, ap, refl, subst, sym, arith, append_assoc, length-append}
-use Rattle.std.specs.List.{flat_map}
-use Rattle.std.proofs.lemmas.Option.{none-some, same_Some}
-use Rattle.std.specs.Borrow.{MutBor}
+use Rattle.std.{specs.List.flat_map, proofs.lemmas.Option.none-some, proofs.lemmas.Option.same_Some, specs.Borrow.MutBor}
 use denote.Param.Members.{Shared}
-use Rattle.itm_types.specs.declared.limits.TheConstants.{MAX_COMMITS, USUAL_DEPTH}
-use Rattle.itm_types.specs.Memory.{bytes_of}
+use Rattle.itm_types.{specs.declared.limits.TheConstants.MAX_COMMITS, specs.declared.limits.TheConstants.USUAL_DEPTH, specs.Memory.bytes_of}
 use Rattle.norec_core.specs.Core.{Core, opening}
 use Rattle.shared_words.proofs.ListPlaces.{starts_self, starts_trans}
 use Rattle.shared_words.specs.declared.pass.Pass.{Pass}

@@ -1,5 +1,5 @@
 -- The names that more than one proof cites, passed on from one place. Declares nothing.
-pub use Rattle.itm_types.proofs.LogRows.{other_word, single_cut, single_push, value_found, value_here, value_stands, value_there}
+pub use Rattle.itm_types.proofs.LogRows.{single_cut, single_push, value_found, value_stands}
 pub use Rattle.itm_types.specs.LogRows.{AreSingle, value_of}
 pub use Rattle.itm_types.specs.declared.row.LogRow.{LogRow}
 pub use Rattle.value_log.specs.Filled.{Filled, IsFilled}

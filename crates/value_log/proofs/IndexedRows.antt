@@ -1,69 +1,31 @@
 -- An index as rows join, and what it finds.
-use Rattle.std.proofs.Common.{map, Bool, true, if◌then◌else◌, eqb, ◌^◌, ◌||◌, ◌≡◌, ◌≢◌, ◌⊎◌, ℕ, zero, suc, ◌==◌, ◌<◌, ◌≤◌, false, List, [], ◌∷◌, ◌++◌, Option, Some, None, length, take, slice_get, slice_set, get_or, ◌-◌, refl, sym, ap, subst, ◌∙◌, inl, inr, arith}
-use Rattle.value_log.proofs.Common.{AllBelow, AreHeads, AreLinks, AreSingle, FallsTo, IsIndex, IsLast, LogRow, length-append, length-map, length-set, length_push, other_word, same_Some, slice_get_within, slot_of, take_all, value_here, value_of, value_there}
+use Rattle.std.proofs.Common.{map, Bool, true, if◌then◌else◌, eqb, ◌^◌, ◌≡◌, ◌≢◌, ◌⊎◌, ℕ, zero, suc, ◌==◌, ◌<◌, ◌≤◌, false, List, [], ◌∷◌, ◌++◌, Some, None, length, take, slice_get, slice_set, ◌-◌, refl, sym, ap, subst, ◌∙◌, inl, inr, arith}
+use Rattle.std.proofs.lemmas.Bool.Decides.{nat_tests}
+use Rattle.value_log.proofs.Common.{AllBelow, AreHeads, AreLinks, AreSingle, FallsTo, IsIndex, IsLast, LogRow, length-append, length-map, length-set, length_push, same_Some, slice_get_within, slot_of, take_all, value_of}
 use Rattle.std.specs.List.{list_any, AllByRecursion, IsDistinct}
-use Rattle.std.proofs.lemmas.Bool.{cases_Bool, eqb-true, eqb-false, ne_eqb}
+use Rattle.std.proofs.lemmas.Bool.{cases_Bool, eqb-true, eqb-false}
 use Rattle.std.proofs.lemmas.Map.Keys.{IsDistinct-cons}
 use Rattle.std.proofs.lemmas.Map.Steps.{length-le_from_distinct_below}
-use Rattle.itm_types.proofs.Words.{slice_get-set_same, slice_get-set_other}
+use Rattle.itm_types.proofs.Words.{slice_get-set_same, slice_get-set_other, slice_get-push}
 
 -- ## Rows by place
-
--- a row that joins is the last one
-got_push : (rows : List LogRow) (r : LogRow) (i : ℕ) (x : LogRow) → slice_get (rows ++ r ∷ []) i ≡ Some x → (slice_get rows i ≡ Some x) ⊎ ((i ≡ length rows) × (r ≡ x))
-got_push [] r zero x e = inr (refl, cc)
-got_push [] r (suc i) x e = absurd (cc)
-got_push (y ∷ ys) r zero x e = inl e
-got_push (y ∷ ys) r (suc i) x e = elim (got_push ys r i x e) [
-  | inl there ↦ inl there
-  | inr last ↦ inr (ap suc last.0, last.1)
-]
 
 -- a word that has no value has no row
 other_at : (rows : List LogRow) (word i : ℕ) (x : LogRow) → value_of word rows ≡ None → slice_get rows i ≡ Some x → (x.word == word) ≡ false
 other_at [] word i x none e = absurd (cc)
-other_at (y ∷ ys) word zero x none e = (let same : y ≡ x = cc in subst (λ (z : LogRow). (z.word == word) ≡ false) same (other_word y ys word none))
-other_at (y ∷ ys) word (suc i) x none e = other_at ys word i x (sym (value_there y ys word (other_word y ys word none)) ∙ none) e
-
--- and one that has a value has it in a row
-row_of : (rows : List LogRow) (word value : ℕ) → value_of word rows ≡ Some value → (i : ℕ) × (x : LogRow) × (slice_get rows i ≡ Some x) × (x.word ≡ word) × (x.value ≡ value)
-row_of [] word value e = absurd (cc)
-row_of (y ∷ ys) word value e = elim (cases_Bool (y.word == word)) [
-  | inl same ↦ (let here = value_here y ys word same in (0, y, refl, eqb-true y.word word same, cc))
-  | inr other ↦ (let rest = row_of ys word value (sym (value_there y ys word other) ∙ e) in (suc rest.0, rest.1, rest.2, rest.3, rest.4))
-]
-
-itself : (a : ℕ) → (a == a) ≡ true
-itself a = elim (cases_Bool (a == a)) [
-  | inl same ↦ same
-  | inr other ↦ absurd (eqb-false a a other refl)
-]
+other_at (y ∷ ys) word zero x none e = grind (arith, nat_tests)
+other_at (y ∷ ys) word (suc i) x none e = grind (arith, nat_tests, other_at ys word i x)
 
 -- in a log the word of each row has that row's value
 pub value_at : (rows : List LogRow) (n : ℕ) (x : LogRow) → AreSingle rows → slice_get rows n ≡ Some x → value_of x.word rows ≡ Some x.value
 value_at [] n x s e = absurd (cc)
-value_at (y ∷ ys) zero x s e = (let same : y ≡ x = cc in subst (λ (z : LogRow). value_of z.word (y ∷ ys) ≡ Some z.value) same (value_here y ys y.word (itself y.word)))
-value_at (y ∷ ys) (suc n) x s e = value_there y ys x.word (other_way x.word y.word (other_at ys y.word n x s.0 e)) ∙ value_at ys n x s.1 e
-  where
-    other_way : (a b : ℕ) → (a == b) ≡ false → (b == a) ≡ false
-    other_way a b e = ne_eqb b a (λ same. eqb-false a b e (sym same))
+value_at (y ∷ ys) zero x s e = grind (arith, nat_tests)
+value_at (y ∷ ys) (suc n) x s e = grind (arith, nat_tests, other_at ys y.word n x s.0 e, value_at ys n x s.1 e)
 
 -- and a word that no row has has none
 pub no_value : (rows : List LogRow) (word : ℕ) → ((i : ℕ) (x : LogRow) → slice_get rows i ≡ Some x → x.word ≢ word) → value_of word rows ≡ None
-no_value rows word none = of (value_of word rows) refl
-  where
-    of : (o : Option ℕ) → value_of word rows ≡ o → value_of word rows ≡ None
-    of None e = e
-    of (Some value) e = (let at = row_of rows word value e in absurd (none at.0 at.1 at.2 at.3))
-
-pub below_push : (rows : List LogRow) (r : LogRow) → AllBelow rows → r.word < 2 ^ 32 - 1 → AllBelow (rows ++ r ∷ [])
-below_push [] r b l = (l, tt)
-below_push (y ∷ ys) r b l = (b.0, below_push ys r b.1 l)
-
-pub below_cut : (n : ℕ) (rows : List LogRow) → AllBelow rows → AllBelow (take n rows)
-below_cut zero rows b = tt
-below_cut (suc n) [] b = tt
-below_cut (suc n) (y ∷ ys) b = (b.0, below_cut n ys b.1)
+no_value [] word none = refl
+no_value (y ∷ ys) word none = grind (arith, nat_tests, none 0 y refl, no_value ys word (λ i. none (suc i)))
 
 -- ## How many rows there are
 
@@ -79,9 +41,7 @@ few_rows rows single below =
   where
     apart : (rows : List LogRow) (word : ℕ) → value_of word rows ≡ None → AllByRecursion (λ y. eqb word y ≡ false) (map (λ (r : LogRow). r.word) rows)
     apart [] word e = tt
-    apart (y ∷ ys) word e =
-        let other = other_word y ys word e in
-        (ne_eqb word y.word (λ same. eqb-false y.word word other (sym same)), apart ys word (sym (value_there y ys word other) ∙ e))
+    apart (y ∷ ys) word e = (grind (arith, nat_tests), apart ys word (grind (arith, nat_tests)))
 
     distinct : (rows : List LogRow) → AreSingle rows → IsDistinct eqb (map (λ (r : LogRow). r.word) rows)
     distinct [] s = tt
@@ -89,17 +49,14 @@ few_rows rows single below =
 
     within : (rows : List LogRow) (q : ℕ) → AllBelow rows → list_any (eqb q) (map (λ (r : LogRow). r.word) rows) ≡ true → q < 2 ^ 32 - 1
     within [] q b h = absurd (cc)
-    within (y ∷ ys) q b h = elim (cases_Bool (eqb q y.word)) [
-      | inl same ↦ subst (λ (n : ℕ). n < 2 ^ 32 - 1) (sym (eqb-true q y.word same)) b.0
-      | inr other ↦ within ys q b.1 (sym (ap (λ t. t || list_any (eqb q) (map (λ (r : LogRow). r.word) ys)) other) ∙ h)
-    ]
+    within (y ∷ ys) q b h = grind (arith, nat_tests, within ys q b.1, b.0)
 
 -- ## Which rows fall to a slot
 
-got_left : (rows more : List LogRow) (i : ℕ) (x : LogRow) → slice_get rows i ≡ Some x → slice_get (rows ++ more) i ≡ Some x
-got_left [] more i x e = absurd (cc)
-got_left (y ∷ ys) more zero x e = e
-got_left (y ∷ ys) more (suc i) x e = got_left ys more i x e
+got_left : {X : Type 0} (xs more : List X) (i : ℕ) → i < length xs → slice_get (xs ++ more) i ≡ slice_get xs i
+got_left [] more i l = absurd (omega arith)
+got_left (x ∷ xs) more zero l = refl
+got_left (x ∷ xs) more (suc i) l = got_left xs more i (omega arith)
 
 got_last : (rows : List LogRow) (r : LogRow) → slice_get (rows ++ r ∷ []) (length rows) ≡ Some r
 got_last [] r = refl
@@ -107,10 +64,10 @@ got_last (y ∷ ys) r = got_last ys r
 
 module _ (slots : ℕ) (rows : List LogRow) (r : LogRow) where
   falls_more : (slot i : ℕ) → FallsTo slots rows slot i → FallsTo slots (rows ++ r ∷ []) slot i
-  falls_more slot i f = (f.0, got_left rows (r ∷ []) i f.0 f.1, f.2)
+  falls_more slot i f = (f.0, got_left rows (r ∷ []) i (slice_get_within rows i f.0 f.1) ∙ f.1, f.2)
 
   falls_push : (slot i : ℕ) → FallsTo slots (rows ++ r ∷ []) slot i → FallsTo slots rows slot i ⊎ ((i ≡ length rows) × (slot_of slots r.word ≡ slot))
-  falls_push slot i f = elim (got_push rows r i f.0 f.1) [
+  falls_push slot i f = elim (slice_get-push rows r i f.0 f.1) [
     | inl there ↦ inl (f.0, there, f.2)
     | inr last ↦ inr (last.0, subst (λ (x : LogRow). slot_of slots x.word ≡ slot) (sym last.1) f.2)
   ]
@@ -164,7 +121,7 @@ module _ (last before : List ℕ) (rows : List LogRow) (r : LogRow) (old : ℕ) 
       ]
 
       links : AreLinks (length last) new_before (rows ++ r ∷ [])
-      links i p x e h = elim (got_push rows r i x e) [
+      links i p x e h = elim (slice_get-push rows r i x e) [
         | inl before_it ↦ (
             let within = slice_get_within rows i x before_it in
             last_more (length last) rows r (slot_of (length last) x.word) i p (omega (arith, within))
@@ -179,24 +136,12 @@ module _ (last before : List ℕ) (rows : List LogRow) (r : LogRow) (old : ℕ) 
 
 -- links of more places change nothing
 pub index_longer : (last before more : List ℕ) (rows : List LogRow) → IsIndex last before rows → IsIndex last (before ++ more) rows
-index_longer last before more rows is = record { within = omega (arith, is.within, length-append before more); heads = is.heads; links = λ i place r e h. is.links i place r e (sym (left before i (omega (arith, slice_get_within rows i r e, is.within))) ∙ h) }
-  where
-    left : (xs : List ℕ) (i : ℕ) → i < length xs → slice_get (xs ++ more) i ≡ slice_get xs i
-    left [] i l = absurd (omega arith)
-    left (x ∷ xs) zero l = refl
-    left (x ∷ xs) (suc i) l = left xs i (omega arith)
+index_longer last before more rows is = record { within = omega (arith, is.within, length-append before more); heads = is.heads; links = λ i place r e h. is.links i place r e (sym (got_left before more i (omega (arith, slice_get_within rows i r e, is.within))) ∙ h) }
 
 pub index_resized : (ok : Bool) (last before more : List ℕ) (rows : List LogRow) (n : ℕ) → length before ≤ n → IsIndex last before rows
     → IsIndex last (if ok then take n before ++ more else before) rows
 index_resized true last before more rows n long is = subst (λ (b : List ℕ). IsIndex last (b ++ more) rows) (sym (take_all n before long)) (index_longer last before more rows is)
 index_resized false last before more rows n long is = is
-
--- ## The index of rows, one after the other
-
-pub got_or : (rows : List LogRow) (i : ℕ) (d : LogRow) → i < length rows → slice_get rows i ≡ Some (get_or rows i d)
-got_or [] i d l = absurd (omega arith)
-got_or (y ∷ ys) zero d l = refl
-got_or (y ∷ ys) (suc i) d l = got_or ys i d (omega arith)
 
 -- ## What it finds
 

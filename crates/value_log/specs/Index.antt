@@ -1,13 +1,13 @@
 -- The index of a value log, and what holds of the fields of every log.
-use Rattle.std.specs.Prelude.{◌≡◌, ℕ, ◌<◌, ◌≤◌, ◌-◌, ◌*◌, ◌/◌, ◌%◌, ◌^◌, List, [], ◌∷◌, length, Some, slice_get}
+use Rattle.std.specs.Prelude.{◌≡◌, ℕ, ◌<◌, ◌≤◌, ◌-◌, ◌*◌, ◌/◌, ◌%◌, ◌^◌, List, length, Some, slice_get}
+use Rattle.std.specs.List.{AllByRecursion}
 use Rattle.value_log.specs.declared.index.TheConstants.{SPREAD}
 use Rattle.itm_types.specs.declared.row.LogRow.{LogRow}
 use Rattle.itm_types.specs.LogRows.{AreSingle}
 
 -- each row's word is one that a memory can have
 abbrev pub AllBelow : List LogRow → Type 0
-AllBelow [] = Unit {0}
-AllBelow (r ∷ rs) = (r.word < 2 ^ 32 - 1) × AllBelow rs
+AllBelow rows = AllByRecursion (λ r. r.word < 2 ^ 32 - 1) rows
 
 -- the slot to which a word falls, of so many
 abbrev pub slot_of : ℕ → ℕ → ℕ

@@ -3,6 +3,7 @@ pub mod Places
 pub mod Rooms
 pub mod CallsWithin
 pub mod CallsOutside
+pub mod Outcomes
 pub mod Answers
 pub mod Rows
 pub mod Starves

@@ -4,5 +4,4 @@ pub mod PlainActions
 pub mod ClockCalls
 pub mod LastEvents
 pub mod RestartingCalls
-pub mod RestartsLeft
 pub mod ActionRooms

@@ -1,6 +1,6 @@
 -- What an answer makes of an account, part by part.
-use Rattle.std.proofs.Common.{ℕ, ◌+◌, false, List, [], ◌∷◌, ◌++◌}
-use Rattle.worker_rules.proofs.Common.{Account, Attempt, Call, Outcome, Ran, Replied, Savepoint, outside, ran_on, reserved, spent, with_call, within}
+use Rattle.std.proofs.Common.{◌≡◌, ℕ, ◌+◌, false, true, List, [], ◌∷◌, ◌++◌}
+use Rattle.worker_rules.proofs.Common.{Account, Attempt, Call, Core, Course, HasRun, IsInside, IsOutside, Outcome, Ran, Replied, Rules, Savepoint, View, in_transaction, outside, positions, ran_on, reserved, spent, with_call, within}
 
 -- the open attempt as a call comes, with room for it and for so many more
 abbrev pub with_room : ℕ → Attempt → Attempt
@@ -30,3 +30,14 @@ module _ {P : Type 0} where
   -- a try came to nothing, and the next one is to come
   abbrev pub tried : Account P → P → List Attempt → Account P
   tried t p ended = record t { player = p; nth = t.nth + 1; stage = outside; ended = ended }
+
+-- these attempts are the run, and the thread's own positions are theirs
+abbrev pub RanTo : {P : Type 0} → Rules P → Course P → View → List Attempt → Type 0
+RanTo rules c v ended = HasRun rules c v ended × (v.mine ≡ c.view.mine ++ positions ended)
+
+-- what an answer leaves of a run, but for what its player's laws say
+pub record RunsTo {P : Type 0} (rules : Rules P) (c : Course P) (v : View) (e : Core) (t : Account P) : Type 0 where
+  pub has_run : HasRun rules c v t.ended
+  pub mine : v.mine ≡ c.view.mine ++ positions t.ended
+  pub inside : in_transaction e ≡ true → IsInside rules c v e t
+  pub outside : in_transaction e ≡ false → IsOutside rules c v e t

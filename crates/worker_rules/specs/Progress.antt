@@ -5,7 +5,7 @@ use Rattle.norec_core.specs.Core.{Core, in_transaction}
 use Rattle.norec_core.specs.Stands.{stands_for}
 use Rattle.shared_words.specs.declared.view.View.{View}
 use Rattle.shared_words.specs.Passes.{commits_known}
-use Rattle.shared_words.specs.Views.{held}
+use Rattle.shared_words.specs.Views.{held_words}
 use Rattle.call_rules.specs.Ties.{memory_of}
 use Rattle.call_rules.specs.Served.{Went}
 use Rattle.tx_attempts.specs.declared.attempt.Attempt.{Attempt}
@@ -28,7 +28,7 @@ MayRead v e m = IsMemory e.words m × ReadsFrom e.irrevocable (memory_of v (e.sn
 -- the words that its engine stands over then: its own stores are in those that are held
 abbrev pub stood : Bool → View → List ℕ → List ℕ
 stood false v m = m
-stood true v m = held v
+stood true v m = held_words v
 
 -- what a run began with: its view, its number, how often a block may be tried again, how often inner blocks may go back to their begins in one transaction, how many blocks may be open at once, how many commits were known, and its player
 pub record Course (P : Type 0) : Type 0 where
@@ -44,7 +44,7 @@ module _ {P : Type 0} (rules : Rules P) where
   -- the open attempt is the engine's; once it is irrevocable, the engine stands, over the words that are held, where its calls led for the engine over the memory of its position
   pub record IsTry (deepest : ℕ) (b : Between P) (row : Attempt) (points : List Savepoint) (p : P) (v : View) (e : Core) : Type 0 where
     pub is_open : IsOpenTry rules deepest (memory_of v (e.snapshot / 2)) b row points p e
-    pub stands_held : e.irrevocable ≡ true → stands_for e (held v) ≡ whole_then deepest row (memory_of v (e.snapshot / 2)) row.calls.list
+    pub stands_held : e.irrevocable ≡ true → stands_for e (held_words v) ≡ whole_then deepest row (memory_of v (e.snapshot / 2)) row.calls.list
 
   -- the attempts that have ended are the player's run over the commits that were seen
   pub record HasRun (c : Course P) (v : View) (ended : List Attempt) : Type 0 where

@@ -16,9 +16,8 @@ pub use Rattle.itm_types.specs.declared.step.Step.{Step}
 pub use Rattle.norec_core.proofs.Replies.AnsweredEngines.{rests}
 pub use Rattle.norec_core.specs.Core.{Core, in_transaction, irrevocable_room, opening}
 pub use Rattle.norec_core.specs.Moves.{IsResumed}
-pub use Rattle.norec_core.specs.Proceeds.{Ends, Proceeds}
+pub use Rattle.norec_core.specs.Proceeds.{Proceeds}
 pub use Rattle.norec_core.specs.Stands.{stands_for}
-pub use Rattle.norec_core.specs.Undoing.{after_undoing}
 pub use Rattle.norec_core.specs.declared.answer.Answer.{Answer}
 pub use Rattle.norec_core.specs.declared.answer.Next.{Next}
 pub use Rattle.norec_core.specs.declared.answer.Next.TheVariants.{Answer as Answers}
@@ -37,7 +36,6 @@ pub use Rattle.tx_runs.specs.PlayerRuns.{stage_of, tally_of}
 pub use Rattle.tx_runs.specs.Runs.{begins_at, run_after}
 pub use Rattle.tx_runs.specs.Tallies.{begins_again, Stage, stand_of, Taken, took_in}
 pub use Rattle.tx_runs.specs.declared.ending.End.TheVariants.{Finished, GaveUp}
-pub use Rattle.world_rules.specs.ActionRoom.{BeganIn, is_held, wanted}
 pub use Rattle.world_rules.specs.Actor.{Actor}
 pub use Rattle.world_rules.specs.Actors.{AreActors}
 pub use Rattle.world_rules.specs.Cells.{Cells, cells_after, found, IsCell}

@@ -1,15 +1,13 @@
 -- Worked cases, computed: the attempts of one counter, and of two whose first try is lost; a block that is cancelled and the next one; the counts of a schedule; which transactions have a room that is kept; a block within another that goes back; which calls go on.
 use Rattle.std.proofs.Common.{◌≡◌, ℕ, suc, ◌-◌, List, [], ◌∷◌, ◌++◌, length, map, refl, ap, ◌∙◌, false, true, replicate, Option, None, Some, Ok, Err, arith, slice_get}
-use Rattle.world_rules.proofs.Common.{Abort, Attempt, Begin, Between, ByAbort, Call, CallRecord, Cells, Commit, Core, Done, GoesBack, IsOpaque, IsRunOf, Load, Log, Mode, Outcome, Props, Read, Reply, Rules, Save, Write, after, alone, asks_further, is_held, memory_after, opening, passes_of, slice_index_or, takes_clock, wanted}
+use Rattle.world_rules.proofs.Common.{Abort, Attempt, Begin, Between, ByAbort, Call, CallRecord, Cells, Commit, Core, Done, GoesBack, IsOpaque, IsRunOf, Load, Log, Mode, Outcome, Props, Read, Reply, Rules, Save, Write, after, alone, asks_further, memory_after, opening, passes_of, slice_index_or, takes_clock}
 use Rattle.world_rules.specs.Dates.{AreDated, IsDated}
 use Rattle.itm_types.specs.declared.call.Reply.TheVariants.{Code, Refused}
 use Rattle.nest_frames.specs.Nest.{Frame}
-use Rattle.tx_runs.specs.OpenAttempts.{promised}
+use Rattle.tx_runs.{specs.OpenAttempts.promised, specs.CallRooms.counted, specs.CallRooms.is_held, specs.CallRooms.wanted}
 use Rattle.world_rules.proofs.Plan.{Plan, next_call, restarted, at_block}
-use Rattle.world_rules.specs.{ActionRoom.counted, PlayerRooms.EndsWithin}
-use Rattle.norec_core.specs.declared.call_parts.Purpose.TheVariants.{Value}
-use Rattle.norec_core.specs.declared.call_parts.Reading.{Reading}
-use Rattle.norec_core.specs.Phases.{Phase}
+use Rattle.world_rules.specs.PlayerRooms.{EndsWithin}
+use Rattle.norec_core.{specs.declared.call_parts.Purpose.TheVariants.Value, specs.declared.call_parts.Reading.Reading, specs.Phases.Phase}
 use Rattle.norec_core.specs.Phases as at
 use Rattle.itm_types.specs.declared.step.Step.TheVariants as steps
 use Rattle.tx_attempts.specs.declared.attempt.Outcome.TheVariants.{Cancelled, Committed, Conflict, Full, ReadOnly, Unfinished}

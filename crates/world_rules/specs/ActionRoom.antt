@@ -1,14 +1,15 @@
 -- The actions of an actor's transaction: which of them have run, and the places for those that are to run. And the places for its calls, and for a block of it that runs again.
-use Rattle.std.specs.Prelude.{◌≡◌, ℕ, ◌+◌, ◌-◌, ◌<◌, ◌≤◌, ◌&&◌, ◌||◌, not, nat_lt, max, if◌then◌else◌, Bool, true, false, List, [], ◌∷◌, length, is_some, Option, None, Some, unwrap_or}
+use Rattle.std.specs.Prelude.{◌≡◌, ℕ, ◌+◌, ◌-◌, ◌<◌, ◌≤◌, max, if◌then◌else◌, Bool, true, false, List, [], ◌∷◌, length, is_some, Option, None, Some}
 use Rattle.itm_types.specs.Calls.{is_abort, is_begin, registered_by}
 use Rattle.user_actions.specs.Actions.{total}
-use Rattle.norec_core.specs.Core.{Core, irrevocable_room, in_transaction, is_within}
+use Rattle.norec_core.specs.Core.{Core, in_transaction}
 use Rattle.norec_core.specs.Restarts.{IsRestart}
 use Rattle.itm_types.specs.declared.call.Call.{Call}
 use Rattle.norec_core.specs.declared.answer.Answer.{Answer as Given}
 use Rattle.norec_core.specs.declared.answer.Next.{Next}
 use Rattle.norec_core.specs.declared.answer.Next.TheVariants.{Step, Answer}
 use Rattle.tx_attempts.specs.declared.attempt.Attempt.{Attempt}
+use Rattle.tx_runs.specs.CallRooms.{HasRoomIn, is_held, may_go_back, wanted}
 use Rattle.tx_runs.specs.OpenAttempts.{IsBacked, promised, told_in}
 use Rattle.tx_runs.specs.PlayerRuns.{MayGoBack, stage_of}
 use Rattle.tx_runs.specs.Savepoints.{AreSavepoints}
@@ -26,23 +27,6 @@ abbrev pub NoCancel : Status → Type 0
 NoCancel Ready = Unit {0}
 NoCancel (Waits call step) = (is_abort call ≡ false) × (is_some (registered_by call) ≡ false)
 NoCancel (Ended end) = Unit {0}
-
--- the room that the call in progress asks for, where it makes the transaction irrevocable
-abbrev pub goes_in : Core → Option Call → Option ℕ
-goes_in e None = None
-goes_in e (Some call) = irrevocable_room e call
-
--- the transaction is irrevocable, or the call in progress makes it so
-abbrev pub is_held : Core → Bool
-is_held e = e.irrevocable || is_some (goes_in e e.doing)
-
--- how many calls the call in progress asks for room for, where it makes the transaction so
-abbrev pub wanted : Core → ℕ
-wanted e = unwrap_or (goes_in e e.doing) 0
-
--- an inner block is open that may go back to its begin, and a restart is left; by a call that waits for a step it may
-abbrev pub may_go_back : Core → Bool
-may_go_back e = nat_lt e.restarted e.restarts && (not e.irrevocable && is_within e.blocks)
 
 -- there is room for one more block of the open attempt that runs again, from an arena of so many bytes, where so many actions may have run
 abbrev pub BacksIn : ℕ → ℕ → Current → Type 0
@@ -82,10 +66,6 @@ NestsAs Ready c = NestsReady c
 NestsAs (Waits call step) c = NestsBy call c
 NestsAs (Ended end) c = Unit {0}
 
--- the actions of the open transaction
-abbrev pub counted : Core → ℕ
-counted e = if in_transaction e then total e.actions else 0
-
 -- in a call the list has a place for it and for what it asks for, and promises no more, if that is not what it had
 pub record HasPlace (e : Core) (row : Attempt) : Type 0 where
   pub least : wanted e < row.calls.room
@@ -100,7 +80,7 @@ PromisesAs e (Ended end) row = row.calls.room ≤ max (promised e) 1
 module _ {P : Type 0} where
   -- while some of the room of such a transaction is left, there is a place for each of its actions and for as many more as the room has
   abbrev pub HasRoomFor : Core → Actor P → Type 0
-  HasRoomFor e a = is_held e ≡ true → 0 < e.room → (counted e + e.room ≤ ends_in a.run.current) × (counted e + e.room ≤ cancels_in a.run.current)
+  HasRoomFor e a = HasRoomIn e (ends_in a.run.current) (cancels_in a.run.current)
 
   -- the actor's open attempt, if it has one, tells of no more blocks that ran again than have gone back
   abbrev pub HasFew : Actor P → Type 0

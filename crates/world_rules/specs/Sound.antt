@@ -20,6 +20,7 @@ use Rattle.norec_core.specs.declared.answer.Answer.TheVariants.{Reply, Committed
 use Rattle.tx_attempts.specs.declared.attempt.Attempt.{Attempt}
 use Rattle.tx_attempts.specs.declared.attempt.Outcome.TheVariants.{Unfinished}
 use Rattle.tx_runs.specs.Nesting.{IsNested, whole}
+use Rattle.tx_runs.specs.Answers.{AnswerFits, LeavesRestarts}
 use Rattle.tx_runs.specs.Ranks.{restarts_left, rank as rank_of}
 use Rattle.world_rules.specs.Actor.{Actor}
 use Rattle.world_rules.specs.declared.actor.Status.{Status}
@@ -76,20 +77,6 @@ module _ {P : Type 0} where
     pub outcome : row.outcome ≡ Unfinished
 
 -- ## Answers
-
--- what an answer leaves: the engine was open or not as the call came, with so many blocks, and now is as this says; the block that goes back to its begin is not the outermost one
-abbrev pub AnswerFits : Bool → ℕ → Bool → ℕ → Call → Answer → Type 0
-AnswerFits was before now deep call (Reply r) = (depth_after before call r ≡ deep) × (is_abort call ≡ false → was ≡ true → now ≡ true)
-AnswerFits was before now deep call (Committed at wrote) = (was ≡ true) × (now ≡ false) × (call ≡ Commit) × (before ≡ 1)
-AnswerFits was before now deep call (Conflict clock word) = (was ≡ false → is_begin call ≡ true) × (now ≡ false)
-AnswerFits was before now deep call (Restarted clock word) = (was ≡ true) × (now ≡ true) × (before ≡ deep) × (1 < before)
-AnswerFits was before now deep call (Busy clock) = (was ≡ false) × (now ≡ false)
-AnswerFits was before now deep call (Full at) = (was ≡ false → is_begin call ≡ true) × (now ≡ false)
-
--- so many restarts were left as the call came, and so many are: one that was made is gone, and no other answer leaves more, but where a transaction has ended
-abbrev pub LeavesRestarts : Bool → Bool → ℕ → ℕ → Answer → Type 0
-LeavesRestarts was now before left (Restarted clock word) = left < before
-LeavesRestarts was now before left answer = (was ≡ true → now ≡ false → ⊥) → left ≤ before
 
 -- of its open attempt it is known where each inner block began, where so many blocks are open
 abbrev pub HasPoints : ℕ → Stage → Type 0

@@ -13,5 +13,4 @@ pub use Rattle.std.proofs.lemmas.Option.{get_or_from_slice_get, same_Some, slice
 pub use Rattle.std.proofs.lemmas.Result.{on_ok_weaker}
 pub use Rattle.std.specs.Int.Bits.{and_zero_l, bit_and, bit_or, or_zero_l}
 unfoldable pub use Rattle.std.specs.List.{IsDistinct}
-pub use Rattle.std.specs.List.{AllByRecursion}
 pub use Rattle.std.specs.Map.{keys_of, values_of}

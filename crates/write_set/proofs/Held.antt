@@ -1,8 +1,8 @@
 -- Rows of which an index has the places: what their list and the index become where a row comes, goes or changes.
-use Rattle.std.proofs.Common.{add-one, ◌≡◌, ◌<◌, ◌≤◌, ◌+◌, ℕ, zero, suc, ◌^◌, min, List, [], ◌∷◌, ◌++◌, length, take, ◌==◌, false, get_or, length-take-le, nat_eq, Bool, cond, position, Option, Some, None, slice_get, slice_set, refl, sym, ap, ◌∙◌, ◌⊎◌, inl, inr, arith, subst, IfNone, IfSome}
-use Rattle.write_set.proofs.Common.{AreHeld, AreRows, Index, IsDistinct, IsFirst, Puts, Row, cases_Bool, eq-eqb, eqb-false, eqb-true, get_or_from_slice_get, keys_of, length_push, lookup, ne_eqb, place_in, row, same_Some, set_row, slice_get-get_or, slice_get_within, values_of}
-use Rattle.std.proofs.lemmas.List.Quantifiers.{position-Some}
-use Rattle.std.proofs.lemmas.Map.Keys.{apart_from_distinct}
+use Rattle.std.proofs.Common.{◌≡◌, ◌<◌, ◌≤◌, ◌+◌, ℕ, zero, suc, ◌^◌, min, List, [], ◌∷◌, ◌++◌, length, take, ◌==◌, false, get_or, length-take-le, nat_eq, Bool, cond, position, Option, Some, None, slice_get, slice_set, refl, sym, ap, ◌∙◌, ◌⊎◌, inl, inr, arith, subst, IfNone, IfSome}
+use Rattle.itm_types.proofs.Words.{slice_get-push}
+use Rattle.std.{proofs.lemmas.List.take_more_set, proofs.lemmas.List.Quantifiers.position-Some, proofs.lemmas.Map.Keys.apart_from_distinct}
+use Rattle.write_set.proofs.Common.{AreHeld, AreRows, Index, IsDistinct, IsFirst, Puts, Row, cases_Bool, eq-eqb, eqb-false, eqb-true, get_or_from_slice_get, keys_of, length_push, lookup, ne_eqb, place_in, row, same_Some, set_row, slice_get-get_or, slice_get_within, values_of, length-take}
 use Rattle.indexmap.proofs.MapLemmas.{Missing-position}
 use Rattle.write_set.proofs.Overlays.{AreRows-push, AreRows-take}
 use Rattle.write_set.proofs.Places.{indexed, none_before, other_at, place_of_found, AreRows-set_row}
@@ -39,46 +39,20 @@ got-set_row (y ∷ ys) (suc place) mask value zero x e = (x, e, refl)
 got-set_row (y ∷ ys) (suc place) mask value (suc i) x e = got-set_row ys place mask value i x e
 
 -- a row that comes again, in its place
-take_again : (list : List Row) (n : ℕ) (x : Row) → n < length list → take (suc n) (slice_set list n x) ≡ take n list ++ x ∷ []
-take_again [] n x l = absurd (omega (arith, l))
-take_again (y ∷ ys) zero x l = refl
-take_again (y ∷ ys) (suc n) x l = ap (λ (list : List Row). y ∷ list) (take_again ys n x (omega (arith, l)))
-
 pub rows_again : (list : List Row) (n : ℕ) (r x : Row) → slice_get list n ≡ Some r → take (n + 1) (slice_set list n x) ≡ take n list ++ x ∷ []
-rows_again list n r x e = ap (λ (n' : ℕ). take n' (slice_set list n x)) (add-one n) ∙ take_again list n x (slice_get_within list n r e)
+rows_again list n r x e = take_more_set list n x (slice_get_within list n r e)
 
-take_twice : (n m : ℕ) (list : List Row) → n ≤ m → take n (take m list) ≡ take n list
-take_twice zero m list l = refl
-take_twice (suc n) zero list l = absurd (omega (arith, l))
-take_twice (suc n) (suc m) [] l = refl
-take_twice (suc n) (suc m) (y ∷ ys) l = ap (λ (list : List Row). y ∷ list) (take_twice n m ys (omega (arith, l)))
-
-got_push : (list : List Row) (y : Row) (i : ℕ) (x : Row) → slice_get (list ++ y ∷ []) i ≡ Some x → (slice_get list i ≡ Some x) ⊎ ((i ≡ length list) × (y ≡ x))
-got_push [] y zero x e = inr (refl, same_Some y x e)
-got_push [] y (suc i) x e = absurd (cc)
-got_push (z ∷ zs) y zero x e = inl e
-got_push (z ∷ zs) y (suc i) x e = elim (got_push zs y i x e) [
-  | inl there ↦ inl there
-  | inr last ↦ inr (ap suc last.0, last.1)
-]
-
-got_cut : (n : ℕ) (list : List Row) (i : ℕ) (x : Row) → slice_get (take n list) i ≡ Some x → slice_get list i ≡ Some x
-got_cut zero list i x e = absurd (cc)
-got_cut (suc n) [] i x e = absurd (cc)
-got_cut (suc n) (y ∷ ys) zero x e = e
-got_cut (suc n) (y ∷ ys) (suc i) x e = got_cut n ys i x e
-
-pub got_take : (n : ℕ) (list : List Row) (i : ℕ) (x : Row) → i < n → slice_get list i ≡ Some x → slice_get (take n list) i ≡ Some x
-got_take zero list i x l e = absurd (omega (arith, l))
-got_take (suc n) [] i x l e = absurd (cc)
-got_take (suc n) (y ∷ ys) zero x l e = e
-got_take (suc n) (y ∷ ys) (suc i) x l e = got_take n ys i x (omega (arith, l)) e
+slice_get-take : (n : ℕ) (list : List Row) (i : ℕ) → i < n → slice_get (take n list) i ≡ slice_get list i
+slice_get-take zero list i l = absurd (omega (arith, l))
+slice_get-take (suc n) [] i l = refl
+slice_get-take (suc n) (y ∷ ys) zero l = refl
+slice_get-take (suc n) (y ∷ ys) (suc i) l = slice_get-take n ys i (omega (arith, l))
 
 got_below : (n : ℕ) (list : List Row) (i : ℕ) (x : Row) → slice_get (take n list) i ≡ Some x → i < n
-got_below zero list i x e = absurd (cc)
-got_below (suc n) [] i x e = absurd (cc)
-got_below (suc n) (y ∷ ys) zero x e = omega arith
-got_below (suc n) (y ∷ ys) (suc i) x e = (let below = got_below n ys i x e in omega (arith, below))
+got_below n list i x e = (let within = slice_get_within (take n list) i x e in omega (arith, within, length-take n list))
+
+got_cut : (n : ℕ) (list : List Row) (i : ℕ) (x : Row) → slice_get (take n list) i ≡ Some x → slice_get list i ≡ Some x
+got_cut n list i x e = sym (slice_get-take n list i (got_below n list i x e)) ∙ e
 
 -- ## The index
 
@@ -168,7 +142,7 @@ module _ (list : List Row) (len : ℕ) (index : Index) (told : ℕ) (is : AreHel
   held-behind x n none m v fewer below many = record {
     are = AreRows-push (take len list) x front none m v;
     within = omega (arith, joined x);
-    tells = λ i y l got. elim (got_push (take len list) x i y got) [
+    tells = λ i y l got. elim (slice_get-push (take len list) x i y got) [
       | inl there ↦ is.tells i y (omega (arith, l, fewer)) (got_cut len list i y there)
       | inr last ↦ (let end = last.0 in absurd (omega (arith, end, l, below, count)))
     ];
@@ -178,16 +152,9 @@ module _ (list : List Row) (len : ℕ) (index : Index) (told : ℕ) (is : AreHel
 
   -- a row that joins few
   pub held-push : (x : Row) → lookup x.word (take len list) ≡ None → x.mask < 2 ^ 64 → x.value < 2 ^ 64 → len < 8 → AreHeld (take len list ++ x ∷ []) (len + 1) index (min told len)
-  held-push x none m v few = record {
-    are = AreRows-push (take len list) x front none m v;
-    within = omega (arith, joined x);
-    tells = λ i y l got. elim (got_push (take len list) x i y got) [
-      | inl there ↦ is.tells i y (omega (arith, l)) (got_cut len list i y there)
-      | inr last ↦ (let end = last.0 in absurd (omega (arith, end, l, count)))
-    ];
-    many = λ l. absurd (omega (arith, few, l));
-    distinct = is.distinct;
-  }
+  held-push x none m v few =
+      let b = held-behind x (min told len) none m v (omega arith) (omega arith) (λ l. absurd (omega (arith, few, l))) in
+      record { are = b.are; within = omega (arith, joined x); tells = b.tells; many = λ l. absurd (omega (arith, few, l)); distinct = is.distinct }
 
   -- a row that joins, and whose place the index tells from now on
   pub held-put : (x : Row) (new : Index) → lookup x.word (take len list) ≡ None → x.mask < 2 ^ 64 → x.value < 2 ^ 64 → len ≤ told → Puts index new x.word len
@@ -195,7 +162,7 @@ module _ (list : List Row) (len : ℕ) (index : Index) (told : ℕ) (is : AreHel
   held-put x new none m v all puts = record {
     are = AreRows-push (take len list) x front none m v;
     within = omega (arith, joined x);
-    tells = λ i y l got. elim (got_push (take len list) x i y got) [
+    tells = λ i y l got. elim (slice_get-push (take len list) x i y got) [
       | inl there ↦
           (let other : nat_eq x.word y.word ≡ false = ne_eqb x.word y.word (λ s. eqb-false y.word x.word (other_at (take len list) x.word i y none there) (sym s)) in
           let below = got_below len list i y there in
@@ -220,7 +187,7 @@ module _ (list : List Row) (len : ℕ) (index : Index) (told : ℕ) (is : AreHel
           (let apart : i ≡ told → ⊥ = eqb-false i told before in
           let below : i < told = grind (arith, l, apart) in
           let none = none_before list told x is.are.apart here in
-          let other : nat_eq x.word y.word ≡ false = ne_eqb x.word y.word (λ s. eqb-false y.word x.word (other_at (take told list) x.word i y none (got_take told list i y below got)) (sym s)) in
+          let other : nat_eq x.word y.word ≡ false = ne_eqb x.word y.word (λ s. eqb-false y.word x.word (other_at (take told list) x.word i y none (slice_get-take told list i below ∙ got)) (sym s)) in
           puts.others y.word other ∙ is.tells i y below got)
     ];
     many = λ l. (let many = is.many l in omega (arith, many));
@@ -229,7 +196,7 @@ module _ (list : List Row) (len : ℕ) (index : Index) (told : ℕ) (is : AreHel
 
   -- where the index tells a place at which the word's row stands, that is it
   pub first_at : (word place : ℕ) (r : Row) → place < len → slice_get list place ≡ Some r → r.word ≡ word → IsFirst (take len list) word place
-  first_at word place r l e same = indexed (take len list) word place r front.apart (got_take len list place r l e) same
+  first_at word place r l e same = indexed (take len list) word place r front.apart (slice_get-take len list place l ∙ e) same
 
   -- a word has no row where there are more rows than few and the index tells another place, or none
   pub none_told : (word : ℕ) → 8 < len → ((place : ℕ) (r : Row) → place < len → slice_get list place ≡ Some r → r.word ≡ word → place_in index word ≡ Some place → ⊥) → lookup word (take len list) ≡ None

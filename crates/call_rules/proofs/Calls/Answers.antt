@@ -1,16 +1,15 @@
 -- Each kind of answer.
 use Rattle.std.proofs.Common.{◌≡◌, inl, inr, ℕ, suc, ◌/◌, ◌<◌, ◌&&◌, not, Bool, true, false, List, [], ◌∷◌, ◌++◌, length, take, Option, None, Some, refl, sym, ap, subst, ◌∙◌, arith, length-append}
-use Rattle.call_rules.proofs.Common.{Agrees, Answer, Answers, Asks, Busy, Call, ComesTo, Commit, Commits, Committed, Conflict, Conflicts, ConflictsIn, Core, Differs, Ends, Enters, Full, GoesBegin, IsAtOnce, IsBegin, IsBusy, IsDue, IsFull, IsMemory, IsPatient, IsRead, IsRest, IsWithin, Loads, Meets, Next, Proceeds, Replies, RepliesHeld, Reply as Replied, Restarted, Served, Stands, Start, State, Tells, View, WantsClock, after_call as after, after_snoc, backed, bytes_of, came, came_over, cases_Bool, false_from_ne_true, held, in_transaction, is_inside, left_over, memory_in, memory_of, mine_if, recoded, reply, rests, room_left, stands_for, stored, take_all, take_at, told_plainly, undone}
-use Rattle.norec_core.specs.declared.answer.Answer.TheVariants.{Reply}
+use Rattle.call_rules.proofs.Common.{Agrees, Answer, Answers, Asks, Busy, Call, ComesTo, Commit, Commits, Committed, Conflict, Conflicts, ConflictsIn, Core, Differs, Ends, Enters, Full, GoesBegin, IsAtOnce, IsBegin, IsBusy, IsDue, IsFull, IsMemory, IsPatient, IsRead, IsRest, IsWithin, Loads, Meets, Next, Proceeds, Replies, RepliesHeld, Reply as Replied, Restarted, Served, Stands, Start, State, Tells, View, WantsClock, after_call as after, after_snoc, backed, bytes_of, came, came_over, cases_Bool, false_from_ne_true, held_words, in_transaction, is_inside, left_over, memory_in, memory_of, mine_if, recoded, reply, rests, room_left, stands_for, stored, take_all, take_at, told_plainly, undone}
+use Rattle.norec_core.{specs.declared.answer.Answer.TheVariants.Reply, proofs.Replies.ReplyCases.reply_cases}
 use Rattle.norec_core.specs.Proceeds as engine
-use Rattle.norec_core.proofs.Replies.ReplyCases.{reply_cases}
 use Rattle.shared_words.specs.Commits as past
 use Rattle.call_rules.specs.Served as served_so
 use Rattle.call_rules.proofs.Steps.CallsInHand.{both, Freed, IsMid, IsHeldMid, Tried, is_memory}
 use Rattle.call_rules.proofs.Steps.NewCalls.{asked_on}
 use Rattle.call_rules.proofs.Calls.ActionRoom.{room_entered, room_same}
 use Rattle.call_rules.proofs.Calls.BlocksBack.{went_back}
-use Rattle.call_rules.proofs.Calls.Closes.{closes, mode_then, open_then, read_so_far, same, served, stands, to_mid, undone_shut, wants_same, whole}
+use Rattle.call_rules.proofs.Calls.Closes.{answered_so, closes, mode_then, open_then, read_so_far, same, to_mid, undone_shut, wants_same, whole}
 
 -- over the memories that the mode chooses
 in_mode : (s : Start) (r : Replied) (w : View) (e : Core) (was is : Bool) → s.engine.irrevocable ≡ was → e.irrevocable ≡ is
@@ -48,15 +47,14 @@ module _ (s : Start) (w : View) (mid new : Core) (m : IsMid s w mid new) where
         state = g.meets x f a ∙ (λ i. after (m.kept.depth i) (same s w mid new m was x i) s.call);
         reply_is = g.reply_is x f a ∙ (λ i. recoded s.call (again_is i) (reply (m.kept.depth i) (same s w mid new m was x i) s.call));
       } in
-      let tells : Tells s (Reply r) w new = record {
+      answered_so s w mid new m rest (record {
         here = in_mode s r w new false false was is (meets (memory_of w k) (is_memory mid.words w m.over k) (logged_as (in_transaction new) refl));
         takes = λ x y. absurd (both new.irrevocable y is);
         all = λ x y z f a. meets z (to_mid s w mid new m z f) a;
         still = λ a x. g.still a (open_then s w mid new m x);
         restarted = rest.restarted (λ r. r) ∙ m.kept.restarted;
         room = ap (λ (c : Core). c.room) stays ∙ room_now r;
-      } in
-      (served s w mid new m rest tells (m.mine g.unfreed), stands s w mid new m rest)
+      }) (m.mine g.unfreed)
 
   -- the transaction becomes irrevocable
   entered : (r : Replied) (rest : IsRest mid (Reply r) new) → Enters mid s.call r new → Done (Reply r)
@@ -71,20 +69,19 @@ module _ (s : Start) (w : View) (mid new : Core) (m : IsMid s w mid new) where
       let long : length w.seen ≡ k = omega arith in
       let fits : IsMemory mid.words (memory_of w k) = is_memory mid.words w m.over k in
       let agrees : Agrees (memory_of w k) mid.log = read_so_far s w mid new m (rest.restarted (λ r. r)) (in_transaction mid) refl in
-      let laid : backed mid (memory_of w k) ≡ held w = ap (backed mid) (whole s w mid new m k long) ∙ sym (m.holding g.held g.revocable).laid in
-      let meets : Meets s r new (memory_of w k) (held w) = record {
+      let laid : backed mid (memory_of w k) ≡ held_words w = ap (backed mid) (whole s w mid new m k long) ∙ sym (m.holding g.held g.revocable).laid in
+      let meets : Meets s r new (memory_of w k) (held_words w) = record {
         state = ap (stands_for new) (sym laid) ∙ (g.meets (memory_of w k) fits agrees ∙ (λ i. after (m.kept.depth i) (same s w mid new m was (memory_of w k) i) s.call));
         reply_is = g.reply_is (memory_of w k) ∙ (λ i. recoded s.call (again_is i) (reply (m.kept.depth i) (same s w mid new m was (memory_of w k) i) s.call));
       } in
-      let tells : Tells s (Reply r) w new = record {
+      answered_so s w mid new m rest (record {
         here = in_mode s r w new false true was is meets;
         takes = λ x y. m.taken g.held g.revocable;
         all = λ x y. absurd (both new.irrevocable is y);
         still = λ a x. o;
         restarted = rest.restarted (λ r. r) ∙ m.kept.restarted;
         room = ap (λ (c : Core). c.room) stays ∙ (room_entered mid s.call r g.goes ∙ room_now r);
-      } in
-      (served s w mid new m rest tells (m.mine g.unfreed), stands s w mid new m rest)
+      }) (m.mine g.unfreed)
 
   -- it is irrevocable
   replied_held : (r : Replied) (rest : IsRest mid (Reply r) new) → RepliesHeld mid s.call r new → (s.engine.irrevocable ≡ true → IsHeldMid s w (Answers (Reply r)) new) → Done (Reply r)
@@ -93,19 +90,18 @@ module _ (s : Start) (w : View) (mid new : Core) (m : IsMid s w mid new) where
       let is : new.irrevocable ≡ true = ap (λ (c : Core). c.irrevocable) g.stays ∙ g.irrevocable in
       let comes = (on was).comes in
       let plainly : (s.again && not (in_transaction s.engine)) ≡ false = first_time in
-      let meets : Meets s r new (held s.view) (held w) = record {
+      let meets : Meets s r new (held_words s.view) (held_words w) = record {
         state = comes.0;
-        reply_is = comes.1 ∙ (sym (told_plainly s.call (reply s.engine.depth (stands_for s.engine (held s.view)) s.call)) ∙ ap (λ (b : Bool). recoded s.call b (reply s.engine.depth (stands_for s.engine (held s.view)) s.call)) (sym plainly));
+        reply_is = comes.1 ∙ (sym (told_plainly s.call (reply s.engine.depth (stands_for s.engine (held_words s.view)) s.call)) ∙ ap (λ (b : Bool). recoded s.call b (reply s.engine.depth (stands_for s.engine (held_words s.view)) s.call)) (sym plainly));
       } in
-      let tells : Tells s (Reply r) w new = record {
+      answered_so s w mid new m rest (record {
         here = in_mode s r w new true true was is meets;
         takes = λ x y. absurd (both s.engine.irrevocable was x);
         all = λ x y. absurd (both s.engine.irrevocable was x);
         still = λ a x. g.still (open_then s w mid new m x);
         restarted = rest.restarted (λ r. r) ∙ m.kept.restarted;
         room = ap (λ (c : Core). c.room) g.stays ∙ room_now r;
-      } in
-      (served s w mid new m rest tells (m.mine g.unfreed), stands s w mid new m rest)
+      }) (m.mine g.unfreed)
     where
       first_time : (s.again && not (in_transaction s.engine)) ≡ false
       first_time = elim (cases_Bool (in_transaction s.engine)) [
@@ -138,7 +134,7 @@ module _ (s : Start) (w : View) (mid new : Core) (m : IsMid s w mid new) where
       let old : memory_of w at ≡ past.after w.base f.past = ap (past.after w.base) here in
       ap (past.after w.base) there ∙ (after_snoc w.base f.past f.last ∙ (f.laid revocable ∙ ap (backed mid) (sym old)))
 
-  held_memory_is : (at : ℕ) → (f : Freed s w mid new) → at ≡ k → memory_of w (suc at) ≡ held w
+  held_memory_is : (at : ℕ) → (f : Freed s w mid new) → at ≡ k → memory_of w (suc at) ≡ held_words w
   held_memory_is at f at_is = ap (past.after w.base) (next_memory at f at_is).1 ∙ ap (stored (past.after w.base w.seen)) (sym f.done)
 
   by_wrote : (at : ℕ) (b : Bool) → mid.freed ≡ b → at ≡ k → w.mine ≡ mine_if b s.view.mine at
@@ -167,9 +163,9 @@ module _ (s : Start) (w : View) (mid new : Core) (m : IsMid s w mid new) where
           actions_is = g.actions_is (memory_of w k) ∙ (λ i. (after (m.kept.depth i) (state i) Commit).actions);
         }
 
-    over_held : s.call ≡ Commit → IsHeldMid s w (Answers (Committed at wrote)) new → CommitsOver at wrote (held s.view)
+    over_held : s.call ≡ Commit → IsHeldMid s w (Answers (Committed at wrote)) new → CommitsOver at wrote (held_words s.view)
     over_held call on =
-        let Comes : Call → Type 0 = λ c. ComesTo (after s.engine.depth (stands_for s.engine (held s.view)) c) (reply s.engine.depth (stands_for s.engine (held s.view)) c) (Answers (Committed at wrote)) new (held w) in
+        let Comes : Call → Type 0 = λ c. ComesTo (after s.engine.depth (stands_for s.engine (held_words s.view)) c) (reply s.engine.depth (stands_for s.engine (held_words s.view)) c) (Answers (Committed at wrote)) new (held_words w) in
         let comes = subst Comes call on.comes in
         record {
           wrote_is = comes.1 ∙ sym comes.2;
@@ -191,7 +187,7 @@ module _ (s : Start) (w : View) (mid new : Core) (m : IsMid s w mid new) where
       let same_call : Some s.call ≡ Some Commit = sym m.kept.doing ∙ g.doing in
       let call : s.call ≡ Commit = cc in
       let does = over at wrote g at_is s.engine.irrevocable refl call on in
-      let tells : Commits s at wrote w new = record {
+      answered_so s w mid new m rest (record {
         closes = closes s w mid new m rest (λ r. r) at (ap in_transaction stays) at_is;
         was_open = sym (ap is_inside m.kept.blocks) ∙ g.is_open;
         outermost = ap length (sym m.kept.blocks) ∙ g.outermost;
@@ -202,14 +198,13 @@ module _ (s : Start) (w : View) (mid new : Core) (m : IsMid s w mid new) where
         few = λ y. (let l = (m.freed (g.freed ∙ y)).few in omega arith);
         arena_is = does.arena_is;
         actions_is = does.actions_is;
-      } in
-      (served s w mid new m rest tells (by_wrote at wrote g.freed at_is), stands s w mid new m rest)
+      }) (by_wrote at wrote g.freed at_is)
 
   -- ## The other answers
 
   -- no irrevocable transaction is answered so
   abbrev Never : Answer → Type 0
-  Never a = (x : State) (r : Replied) → ComesTo x r (Answers a) new (held w) → ⊥
+  Never a = (x : State) (r : Replied) → ComesTo x r (Answers a) new (held_words w) → ⊥
 
   revocable_by : (a : Answer) → Never a → (s.engine.irrevocable ≡ true → IsHeldMid s w (Answers a) new) → s.engine.irrevocable ≡ false
   revocable_by a never on = false_from_ne_true s.engine.irrevocable (λ i. never _ _ (on i).comes)
@@ -231,7 +226,7 @@ module _ (s : Start) (w : View) (mid new : Core) (m : IsMid s w mid new) where
       let now : w.clock ≡ mid.clock = m.clock g.is_open in
       let late = (m.before g.is_open).late in
       let first = m.first is_open in
-      let tells : Conflicts s clock word w new = record {
+      answered_so s w mid new m rest (record {
         closes = closes s w mid new m rest (λ r. r) k (ap in_transaction stays) refl;
         later = omega arith;
         clock_is = clock_is ∙ sym now;
@@ -244,8 +239,7 @@ module _ (s : Start) (w : View) (mid new : Core) (m : IsMid s w mid new) where
         begins = λ shut. absurd (both (in_transaction s.engine) is_open shut);
         patient = up.0;
         undone = undone_is was g.undone;
-      } in
-      (served s w mid new m rest tells (m.mine g.unfreed), stands s w mid new m rest)
+      }) (m.mine g.unfreed)
     where
       read_row : (o : Option ℕ) → Differs mid o → IsRead s k w o
       read_row None d = tt
@@ -267,7 +261,7 @@ module _ (s : Start) (w : View) (mid new : Core) (m : IsMid s w mid new) where
       let snap : new.snapshot ≡ mid.snapshot = ap (λ (c : Core). c.snapshot) stays in
       let later = g.later in
       let now = looked shut in
-      let tells : Conflicts s clock word w new = record {
+      answered_so s w mid new m rest (record {
         closes = closes s w mid new m rest (λ r. r) k (ap in_transaction stays) refl;
         later = omega arith;
         clock_is = g.clock_is ∙ sym now.0;
@@ -277,8 +271,7 @@ module _ (s : Start) (w : View) (mid new : Core) (m : IsMid s w mid new) where
         begins = up.1;
         patient = up.0;
         undone = undone_shut s w mid new m (shut_before shut) was (ap (λ (c : Core). c.irrevocable) stays) (ap (λ (c : Core). c.writes) stays) (ap (λ (c : Core). c.blocks) stays) (ap (λ (c : Core). c.arena) stays) (ap (λ (c : Core). c.actions) stays);
-      } in
-      (served s w mid new m rest tells (m.mine g.unfreed), stands s w mid new m rest)
+      }) (m.mine g.unfreed)
 
   by_open : (clock : ℕ) (word : Option ℕ) → GaveUp word → s.engine.irrevocable ≡ false → HasLooked → IsRest mid (Conflict clock word) new → (b : Bool) → in_transaction mid ≡ b → ConflictsIn b mid clock word new → Done (Conflict clock word)
   by_open clock word up was looked rest true is g = conflicted clock word up was g rest
@@ -289,7 +282,7 @@ module _ (s : Start) (w : View) (mid new : Core) (m : IsMid s w mid new) where
       let stays = g.stays in
       let rest = rests mid new (Busy clock) g in
       let now = looked g.closed in
-      let tells : IsBusy s clock w new = record {
+      answered_so s w mid new m rest (record {
         closes = closes s w mid new m rest (λ r. r) k (ap in_transaction stays) refl;
         was_closed = shut_before g.closed;
         begins = begins_with g.begins;
@@ -298,8 +291,7 @@ module _ (s : Start) (w : View) (mid new : Core) (m : IsMid s w mid new) where
         clock_is = g.clock_is ∙ sym now.0;
         looks = now.1;
         undone = undone_shut s w mid new m (shut_before g.closed) was (ap (λ (c : Core). c.irrevocable) stays) (ap (λ (c : Core). c.writes) stays) (ap (λ (c : Core). c.blocks) stays) (ap (λ (c : Core). c.arena) stays) (ap (λ (c : Core). c.actions) stays);
-      } in
-      (served s w mid new m rest tells (m.mine g.unfreed), stands s w mid new m rest)
+      }) (m.mine g.unfreed)
 
   full : (at : ℕ) → s.engine.irrevocable ≡ false → engine.IsFull mid at new → Done (Full at)
   full at was g =
@@ -307,13 +299,12 @@ module _ (s : Start) (w : View) (mid new : Core) (m : IsMid s w mid new) where
       let rest = rests mid new (Full at) g in
       let limit : mid.max_commits ≡ s.engine.max_commits = m.kept.max_commits in
       let many = g.full in
-      let tells : IsFull s at w new = record {
+      answered_so s w mid new m rest (record {
         closes = closes s w mid new m rest (λ r. r) at (ap in_transaction stays) g.at_is;
         wants = wants_same s w mid new m s.call (subst (WantsClock mid) m.kept.doing g.wants);
         full = omega arith;
         undone = undone_is was g.undone;
-      } in
-      (served s w mid new m rest tells (m.mine g.unfreed), stands s w mid new m rest)
+      }) (m.mine g.unfreed)
 
   -- a lost begin and a busy one have looked, as often as they may
   abbrev pub MayAnswer : Answer → Type 0

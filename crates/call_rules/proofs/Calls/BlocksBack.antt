@@ -4,7 +4,7 @@ use Rattle.call_rules.proofs.Common.{Agrees, Core, Frame, Restarted, Restarts, S
 use Rattle.norec_core.specs.Restarts as engine
 use Rattle.norec_core.proofs.Engines.BlocksAgain.{restart_parts}
 use Rattle.call_rules.proofs.Steps.CallsInHand.{IsMid}
-use Rattle.call_rules.proofs.Calls.Closes.{mode_then, same, served, stands, to_mid}
+use Rattle.call_rules.proofs.Calls.Closes.{answered_so, mode_then, same, to_mid}
 
 within_inside : (bs : List Frame) → is_within bs ≡ true → is_inside bs ≡ true
 within_inside [] e = absurd (cc)
@@ -54,7 +54,7 @@ module _ (s : Start) (w : View) (mid new : Core) (m : IsMid s w mid new) (clock 
       let limit : mid.restarts ≡ s.engine.restarts = m.kept.restarts in
       let some_left = parts.2 in
       let more : new.restarted ≡ mid.restarted + 1 = ap (λ (c : Core). c.restarted) g.stays in
-      let tells : Restarts s clock word w new = record {
+      answered_so s w mid new m rest (record {
         still = (was_open, is_open);
         within = ap is_within (sym blocks_are) ∙ parts.0;
         left = omega arith;
@@ -70,5 +70,4 @@ module _ (s : Start) (w : View) (mid new : Core) (m : IsMid s w mid new) (clock 
         agrees = subst (λ (n : ℕ). Agrees (memory_of w (n / 2)) new.log) snap (m.logged is_open);
         blocks = ap (λ (c : Core). c.blocks) g.stays ∙ ap renewed blocks_are;
         meets = λ x f a. g.meets x (to_mid s w mid new m x f) a ∙ (λ i. begun_again (blocks_are i) (back (same s w mid new m was x i)));
-      } in
-      (served s w mid new m rest tells (m.mine g.unfreed), stands s w mid new m rest)
+      }) (m.mine g.unfreed)

@@ -18,7 +18,7 @@ module _ (s : Start) (w : View) (mid new : Core) (m : IsMid s w mid new) where
         let clock : mid.clock ≡ new.snapshot = sym r.clock ∙ (m.settled.inside r.idle o).0 in
         record { clock = c.clock ∙ clock; count = c.count ∙ ap (λ (n : ℕ). n / 2) clock; agrees = m.logged o }
 
-    pub stands : Stands w new
+    stands : Stands w new
     stands = let behind = m.behind in let known = m.known in let clock = r.clock in record {
       over = subst (λ (n : ℕ). IsOver (suc n) w) (sym r.words) m.over;
       holds = m.holds ∙ sym r.held;
@@ -30,7 +30,7 @@ module _ (s : Start) (w : View) (mid new : Core) (m : IsMid s w mid new) where
       reads = reads;
     }
 
-    pub served : Tells s a w new → w.mine ≡ mine_after s.view.mine a → Served s a w new
+    served : Tells s a w new → w.mine ≡ mine_after s.view.mine a → Served s a w new
     served tells mine = let within = m.spent in let spent = r.spent in record {
       tells = tells;
       mine = mine;
@@ -45,6 +45,9 @@ module _ (s : Start) (w : View) (mid new : Core) (m : IsMid s w mid new) where
       words = r.words ∙ m.kept.words;
       limits = (r.max_commits ∙ m.kept.max_commits, r.patience ∙ m.kept.patience, r.depth ∙ m.kept.depth, r.restarts ∙ m.kept.restarts);
     }
+
+    pub answered_so : Tells s a w new → w.mine ≡ mine_after s.view.mine a → Served s a w new × Stands w new
+    answered_so tells mine = (served tells mine, stands)
 
     -- no transaction is open
     pub closes : (IsRestart a → ⊥) → (at : ℕ) → in_transaction new ≡ false → at ≡ new.snapshot / 2 → Closes s at w new

@@ -1,8 +1,7 @@
 -- A call of a thread that was left off between a step and what comes of it.
 use Rattle.std.proofs.Common.{ℕ, ◌++◌, Bool}
 use Rattle.call_rules.proofs.Common.{Answer, Answers, Asks, Call, Core, Finishes, HasStepped, IsDone, IsOver, IsUnderway, Pass, Stands, Start, Words, cells_of, view_of}
-use Rattle.call_rules.proofs.Steps.DrivenCalls.{due_on, leads_further}
-use Rattle.call_rules.proofs.Steps.StepChains.{starts}
+use Rattle.call_rules.{proofs.Steps.DrivenCalls.due_on, proofs.Steps.DrivenCalls.leads_further, proofs.Steps.StepChains.starts}
 
 module _ {A : Type 0} (words : Words A) (p : Pass) (e : Core) (call : Call) (again : Bool) (found : ℕ) (left : Pass) (new : Core) (u : IsUnderway words p e call again found left new) where
   -- its step is done

@@ -1,6 +1,6 @@
 -- An engine with a call that came, or with the value of its step, and the view of its pass.
 use Rattle.std.proofs.Common.{◌≡◌, ◌≢◌, ◌⊎◌, ℕ, suc, ◌+◌, ◌/◌, ◌<◌, ◌≤◌, Bool, true, false, List, [], ◌∷◌, ◌++◌, length, take, None, Some, slice_get, slice_index, ap, ◌∙◌, arith}
-use Rattle.call_rules.proofs.Common.{Agrees, ComesTo, Core, Follows, Got, Grows, Idle, IsFresh, IsHolding, IsMemory, IsOpening, IsOver, IsSettled, IsShut, Keeps, Loads, Next, Stand, Start, StartsWith, Store, View, Went, after, after_call, after_fits, asked, backed, came, commits_take, held, in_transaction, length_after, memory_of, most, pending, reads_of, reply, stage_at, stands_for, stored}
+use Rattle.call_rules.proofs.Common.{Agrees, ComesTo, Core, Follows, Got, Grows, Idle, IsFresh, IsHolding, IsMemory, IsOpening, IsOver, IsSettled, IsShut, Keeps, Loads, Next, Stand, Start, StartsWith, Store, View, Went, after, after_call, after_fits, asked, backed, came, commits_take, held_words, in_transaction, length_after, memory_of, most, pending, reads_of, reply, stage_at, stands_for, stored}
 use Rattle.std.proofs.lemmas.Option.{slice_get-get_or}
 
 pub both : (n : Bool) → n ≡ true → n ≡ false → ⊥
@@ -66,8 +66,8 @@ pub record Tried (s : Start) (w : View) (mid new : Core) : Type 0 where
 
 -- in an irrevocable transaction, what comes next of it over the words that are held
 pub record IsHeldMid (s : Start) (w : View) (what : Next) (new : Core) : Type 0 where
-  pub comes : ComesTo (after_call s.engine.depth (stands_for s.engine (held s.view)) s.call) (reply s.engine.depth (stands_for s.engine (held s.view)) s.call) what new (held w)
-  pub got : (word value : ℕ) → new.waits ≡ Some (Store (suc word) value) → Got new.got (slice_get (held w) word)
+  pub comes : ComesTo (after_call s.engine.depth (stands_for s.engine (held_words s.view)) s.call) (reply s.engine.depth (stands_for s.engine (held_words s.view)) s.call) what new (held_words w)
+  pub got : (word value : ℕ) → new.waits ≡ Some (Store (suc word) value) → Got new.got (slice_get (held_words w) word)
 
 -- ## Rows and pairs
 

@@ -1,7 +1,7 @@
 -- What a thread says of a call follows from the steps of its engine.
-use Rattle.std.proofs.Common.{inl, inr, ◌≡◌, ◌≢◌, ℕ, zero, suc, ◌+◌, List, [], ◌∷◌, ◌++◌, refl, sym, ap, ◌∙◌, subst, arith, append_assoc, append-nil}
-use Rattle.call_rules.proofs.Common.{Answer, Answers, Asks, Cas, Core, Drives, HasStepped, IsDriven, IsDue, IsOver, LeadsOn, Load, Next, Served, Stands, Start, Step, StepTells, Store, View, cases_Bool, dite, ℕ_discrete}
-use Rattle.call_rules.proofs.Steps.StepChains.{goes, starts}
+use Rattle.std.proofs.Common.{inl, inr, ◌≡◌, ℕ, zero, suc, ◌+◌, List, [], ◌∷◌, ◌++◌, refl, sym, ap, ◌∙◌, subst, arith, append_assoc, append-nil}
+use Rattle.call_rules.proofs.Common.{Answer, Answers, Asks, Cas, Core, Drives, HasStepped, IsDriven, IsDue, IsOver, LeadsOn, Load, Next, Served, Stands, Start, Step, StepTells, Store, View, cases_Bool}
+use Rattle.call_rules.{proofs.Steps.NextViews.exchanged, proofs.Steps.StepChains.goes, proofs.Steps.StepChains.starts}
 
 -- what is due stays due, step by step
 pub due_on : (cells : ℕ) (s : Start) (steps : List (Step × ℕ)) (v v' : View) (e e' : Core) (next next' : Next) → IsOver cells v → IsDue s v e next → LeadsOn cells v e next steps v' e' next' → IsDue s v' e' next'
@@ -31,9 +31,7 @@ noted_step v w n (Store zero value) h =
 noted_step v w n (Store (suc word) value) h =
     ap (λ (x : View). x.steps) (h.turn.1 word (let x : suc word ≡ word + 1 = omega arith in x))
     ∙ ap (λ (m : ℕ). v.steps ++ (Store (suc word) value, m) ∷ []) (sym h.moves.finds_it)
-noted_step v w n (Cas cell from to) h = dite (ℕ_discrete n from)
-    (λ (hit : n ≡ from). (let r : w.steps ≡ v.steps ++ (Cas cell from to, n) ∷ [] = ap (λ (x : View). x.steps) (h.turn.0 hit).0 ∙ ap (λ (m : ℕ). v.steps ++ (Cas cell from to, m) ∷ []) (sym hit) in r))
-    (λ (miss : n ≢ from). (let r : w.steps ≡ v.steps ++ (Cas cell from to, n) ∷ [] = ap (λ (x : View). x.steps) (h.turn.1 miss).0 in r))
+noted_step v w n (Cas cell from to) h = (exchanged v w n cell from to h.turn).steps
 
 -- and all of them
 pub noted : (cells : ℕ) (steps : List (Step × ℕ)) (v v' : View) (e e' : Core) (next next' : Next) → LeadsOn cells v e next steps v' e' next' → v'.steps ≡ v.steps ++ steps

@@ -2,6 +2,7 @@
 use Rattle.std.proofs.Common.{◌≡◌, ℕ, ◌<◌, ◌≤◌, List, [], ◌∷◌, ◌++◌, Some, refl, sym, ap, subst, arith}
 use Rattle.call_rules.proofs.Common.{Answer, Answers, Asks, Core, Drives, Finds, Finishes, HasStepped, InCall, IsDue, IsOver, IsResumed, LeadsOn, Next, Owns, Pass, Start, Step, StepTells, StepsOn, View, Words, cells_of, left, view_of}
 use Rattle.call_rules.proofs.Steps.DrivenCalls.{due_on, leads_further}
+use Rattle.call_rules.proofs.Steps.KnownSteps.{leads_last}
 use Rattle.call_rules.proofs.Steps.StepChains.{at_step, goes, smaller}
 
 -- all steps were done, and the engine is told of the last one
@@ -10,7 +11,7 @@ found_finishes words v e next pass mid new n a f resumed = record {
   own = f.own;
   steps = f.steps ++ (f.step, n) ∷ [];
   leads = leads_further (cells_of words) f.steps ((f.step, n) ∷ []) v f.before (view_of pass) e mid new next (Asks f.step) (Answers a) f.leads
-      (refl, view_of pass, new, Answers a, record { stepped = f.stepped; over = f.own.over; resumed = resumed }, (refl, refl, refl));
+      (leads_last refl f.stepped.moves f.stepped.turn f.own.over resumed);
 }
 
 -- the step that the engine waits for
@@ -39,7 +40,7 @@ module _ {A : Type 0} (words : Words A) (v : View) (e : Core) (first : Step) (s 
   one_step pass new then n stepped own resumed = record {
     own = own;
     steps = (first, n) ∷ [];
-    leads = (refl, view_of pass, new, then, record { stepped = stepped; over = own.over; resumed = resumed }, (refl, refl, refl));
+    leads = leads_last refl stepped.moves stepped.turn own.over resumed;
     less = smaller (cells_of words) v (view_of pass) over own.over e new first n stepped.turn then resumed s due;
   }
 
@@ -59,7 +60,7 @@ module _ {A : Type 0} (words : Words A) (v : View) (e : Core) (first : Step) (s 
       pub one_further : (after : Pass) (new : Core) (then : Next) (n : ℕ) → HasStepped (view_of pass) step n (view_of after) → Owns words after → IsResumed mid n then new → StepsOn words v e first after new then
       one_further after new then n stepped own resumed =
           let less = smaller (cells_of words) (view_of pass) (view_of after) on.own.over own.over mid new step n stepped.turn then resumed s in_call in
-          let last : LeadsOn (cells_of words) (view_of pass) mid (Asks step) ((step, n) ∷ []) (view_of after) new then = (refl, view_of after, new, then, record { stepped = stepped; over = own.over; resumed = resumed }, (refl, refl, refl)) in
+          let last : LeadsOn (cells_of words) (view_of pass) mid (Asks step) ((step, n) ∷ []) (view_of after) new then = leads_last refl stepped.moves stepped.turn own.over resumed in
           record {
             own = own;
             steps = on.steps ++ (step, n) ∷ [];
@@ -86,6 +87,6 @@ module _ {A : Type 0} (words : Words A) (v : View) (e : Core) (first : Step) (s 
           own = f.own;
           steps = f.steps ++ (f.step, n) ∷ [];
           leads = leads_further (cells_of words) f.steps ((f.step, n) ∷ []) v f.before (view_of pass) e mid new (Asks first) (Asks f.step) then f.leads
-              (refl, view_of pass, new, then, record { stepped = f.stepped; over = f.own.over; resumed = resumed }, (refl, refl, refl));
+              (leads_last refl f.stepped.moves f.stepped.turn f.own.over resumed);
           less = omega (arith, less, most);
         }

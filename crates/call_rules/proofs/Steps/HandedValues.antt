@@ -1,12 +1,12 @@
 -- The step was done, and its value is handed in.
 use Rattle.std.proofs.Common.{◌≡◌, ◌≢◌, ◌⊎◌, inl, inr, ℕ, zero, suc, ◌+◌, ◌/◌, ◌<◌, ◌≤◌, ◌==◌, Bool, true, false, List, [], ◌∷◌, ◌++◌, length, set, take, if◌then◌else◌, None, Some, slice_get, refl, sym, ap, subst, ◌∙◌, arith, eqb-true, eq-eqb, length-append}
-use Rattle.call_rules.proofs.Common.{Cas, Core, Follows, Got, InCall, IsFresh, IsHanded, IsHolding, IsLawful, IsMemory, IsOver, IsSettled, IsTied, Joins, Load, Loaded, Sees, Start, Step, StepTells, Store, View, after, agrees_more, asked, backed, cases_Bool, freed, got_now, got_or, handed_is, handed_to, held, in_transaction, is_inside, keeps_twice, looked, noted, read, snapshot_same, starts_self, stored_snoc, took, word_loaded, wrote}
+use Rattle.call_rules.proofs.Common.{Agrees, Cas, Core, Follows, Got, InCall, IsFresh, IsHanded, IsHolding, IsLawful, IsMemory, IsOver, IsSettled, IsTied, Joins, Load, Loaded, Sees, Start, Step, StepTells, Store, View, after, agrees_more, asked, backed, cases_Bool, freed, got_now, got_or, handed_is, handed_to, held_words, in_transaction, is_inside, keeps_twice, looked, noted, read, snapshot_same, starts_self, stored_snoc, took, word_loaded, wrote}
 use Rattle.norec_core.specs.Phases as at
-use Rattle.norec_core.specs.OwnAccesses.{got_in}
+use Rattle.norec_core.{specs.OwnAccesses.got_in, specs.Rows.write_at}
 use Rattle.write_set.specs.Rows.{overlay}
 use Rattle.call_rules.proofs.Steps.CallsInHand.{Freed, both, IsMid, stand_less, get_of, whole_memory}
 use Rattle.call_rules.proofs.Steps.NewCalls.{held_memory}
-use Rattle.call_rules.proofs.Steps.NextViews.{Log, Looks, before_on, fixed_on, grows_on, logged_on, looks_not, opens_on, went_on}
+use Rattle.call_rules.proofs.Steps.NextViews.{Log, Looks, before_on, exchanged, fixed_on, grows_on, logged_on, looks_not, opens_on, went_on}
 
 module _ (s : Start) (v : View) (e : Core) (step : Step) (i : InCall s v e step) (n : ℕ) (new : Core) (joins : Joins e n new) (settled : IsSettled new) (asks : new.waits ≡ asked new) where
   t : IsTied v e
@@ -65,9 +65,28 @@ module _ (s : Start) (v : View) (e : Core) (step : Step) (i : InCall s v e step)
     spent = (let a = h.spent in let b = i.within in omega arith);
   }
 
-  -- the holder or a reader of words is open
-  open_before : in_transaction e ≡ true → (w : View) (mid : Core) → in_transaction e ≡ false → in_transaction new ≡ true → Follows w mid
-  open_before is w mid shut o = absurd (both (in_transaction e) is shut)
+  -- the clock was not looked at
+  still_differs : (w : View) (mid : Core) → in_transaction e ≡ true → (w.clock ≡ v.clock) × (w.seen ≡ v.seen) × (w.looks ≡ v.looks) × (w.mine ≡ v.mine) × (w.holds ≡ v.holds) × (w.high ≡ v.high) → (mid.clock ≡ e.clock) × (mid.holds ≡ e.holds) × (mid.freed ≡ e.freed) → IsFresh w mid
+      → (mid.holds ≡ true → mid.irrevocable ≡ false → IsHolding w mid × (s.view.looks < w.looks)) → length w.steps ≡ length v.steps + 1 → Differs w mid
+  still_differs w mid is_open is now fresh holding stepped =
+      let c = t.clocks is_open in
+      let follows : Follows w mid = record { clock = is.0 ∙ (c.clock ∙ sym now.0); count = ap length is.1 ∙ (c.count ∙ ap (λ (k : ℕ). k / 2) (sym now.0)) } in
+      record {
+        behind = (let b = t.behind in omega (arith, is.0, now.0));
+        known = (let k = follows.count in omega arith);
+        rises = omega (arith, now.0);
+        holds = is.4 ∙ (t.holds ∙ sym now.1);
+        fresh = fresh;
+        clocks = λ x. follows;
+        holding = λ x y. (holding x y).0;
+        freed = λ x. absurd (both mid.freed x (now.2 ∙ t.settled.unfreed));
+        mine = λ x. is.3 ∙ i.mine;
+        looked = λ x. subst (λ (q : ℕ × ℕ). (q.0 ≡ s.view.clock) ⊎ (s.view.looks < q.1)) (λ j. (sym is.0 j, sym is.2 j)) i.looked;
+        taken = λ x y. (holding x y).1;
+        opened = λ x y. follows;
+        stepped = stepped;
+        high = omega (arith, is.5);
+      }
 
   -- ## The clock is loaded
 
@@ -81,90 +100,49 @@ module _ (s : Start) (v : View) (e : Core) (step : Step) (i : InCall s v e step)
     on = (let r : v.looks ≤ v.looks + 1 = omega arith in r);
   }
 
+  looks_differ : (h : Log) → Sees v n h → (w : View) (mid : Core) → (w.clock ≡ n) × (w.seen ≡ h) × (w.looks ≡ v.looks + 1) × (w.mine ≡ v.mine) → (mid.clock ≡ n) × (mid.fresh ≡ []) × (mid.freed ≡ e.freed) → w.holds ≡ mid.holds
+      → (mid.holds ≡ true → mid.irrevocable ≡ false → IsHolding w mid) → length w.steps ≡ length v.steps + 1 → v.high ≤ w.high → Differs w mid
+  looks_differ h c w mid is now holds holding stepped high =
+      let follows : Follows w mid = record { clock = is.0 ∙ sym now.0; count = ap length is.1 ∙ (c.counts ∙ ap (λ (k : ℕ). k / 2) (sym now.0)) } in
+      let up : s.view.looks < w.looks = (let went = i.went.looks in omega (arith, is.2)) in
+      record {
+        behind = omega (arith, is.0, now.0);
+        known = (let k = follows.count in omega arith);
+        rises = (let a = t.behind in let b = c.late in omega (arith, now.0));
+        holds = holds;
+        fresh = λ m l st. subst (Agrees m) (sym now.1) tt;
+        clocks = λ x. follows;
+        holding = holding;
+        freed = λ x. absurd (both mid.freed x (now.2 ∙ t.settled.unfreed));
+        mine = λ x. is.3 ∙ i.mine;
+        looked = λ x. inr up;
+        taken = λ x y. up;
+        opened = λ x y. follows;
+        stepped = stepped;
+        high = high;
+      }
+
   by_look : (h : Log) → IsOver (suc e.words) (looked v (Load 0) h n) → Sees v n h → e.holds ≡ false → IsMid s (looked v (Load 0) h n) (handed_to e (Some (Load 0)) n) new
   by_look h o c free =
-      let w : View = looked v (Load 0) h n in
-      let counts = c.counts in
-      let went = i.went.looks in
-      made w (handed_to e (Some (Load 0)) n) refl refl (looks_at h c) o (handed_is e (Load 0) n) (record {
-        behind = (let r : n ≤ n = omega arith in r);
-        known = (let r : n / 2 ≤ length h = omega arith in r);
-        rises = (let a = t.behind in let b = c.late in let r : e.clock ≤ n = omega arith in r);
-        holds = t.holds;
-        fresh = λ m l st. tt;
-        clocks = λ x. record { clock = refl; count = c.counts };
-        holding = λ x y. absurd (both e.holds x free);
-        freed = λ x. absurd (both e.freed x t.settled.unfreed);
-        mine = λ x. i.mine;
-        looked = λ x. inr (let r : s.view.looks < v.looks + 1 = omega arith in r);
-        taken = λ x y. absurd (both e.holds x free);
-        opened = λ x y. record { clock = refl; count = c.counts };
-        stepped = length-append v.steps _;
-        high = c.high;
-      })
+      made (looked v (Load 0) h n) (handed_to e (Some (Load 0)) n) refl refl (looks_at h c) o (handed_is e (Load 0) n)
+      (looks_differ h c (looked v (Load 0) h n) (handed_to e (Some (Load 0)) n) (refl, refl, refl, refl) (refl, refl, refl) t.holds (λ x y. absurd (both e.holds x free)) (length-append v.steps _) c.high)
 
   -- ## The clock is taken, or not
 
   module _ (cell from to : ℕ) (lawful : IsLawful e (Cas cell from to)) (is : step ≡ Cas cell from to) where
-    no_load : step ≡ Load 0 → ⊥
-    no_load x = let y : Cas cell from to ≡ Load 0 = sym is ∙ x in absurd (cc)
-
-    tried : (h : Log) → Sees v n h → Seen h (v.looks + 1)
-    tried h c = record {
-      grows = c.grows;
-      at_load = λ x. absurd (no_load x);
-      up_load = λ x. absurd (no_load x);
-      up_take = λ f g x. (let r : v.looks < v.looks + 1 = omega arith in r);
-      on = (let r : v.looks ≤ v.looks + 1 = omega arith in r);
-    }
-
     abbrev Left : Bool → Core
     Left b = record e { waits = None; stage = at.Idle; tries = 0; clock = n; fresh = []; holds = b; done = 0; got = None }
 
     missed : (h : Log) → IsOver (suc e.words) (looked v (Cas cell from to) h n) → Sees v n h → IsHanded e (Left false) → IsMid s (looked v (Cas cell from to) h n) (Left false) new
     missed h o c handed =
-        let w : View = looked v (Cas cell from to) h n in
-        let counts = c.counts in
-        let went = i.went.looks in
-        made w _ refl refl (tried h c) o handed (record {
-          behind = (let r : n ≤ n = omega arith in r);
-          known = (let r : n / 2 ≤ length h = omega arith in r);
-          rises = (let a = t.behind in let b = c.late in let r : e.clock ≤ n = omega arith in r);
-          holds = t.holds ∙ lawful.1;
-          fresh = λ m l st. tt;
-          clocks = λ x. record { clock = refl; count = c.counts };
-          holding = λ x y. absurd (cc);
-          freed = λ x. absurd (both e.freed x t.settled.unfreed);
-          mine = λ x. i.mine;
-          looked = λ x. inr (let r : s.view.looks < v.looks + 1 = omega arith in r);
-          taken = λ x y. absurd (cc);
-          opened = λ x y. record { clock = refl; count = c.counts };
-          stepped = length-append v.steps _;
-          high = c.high;
-        })
+        made (looked v (Cas cell from to) h n) _ refl refl (looks_at h c) o handed
+        (looks_differ h c (looked v (Cas cell from to) h n) (Left false) (refl, refl, refl, refl) (refl, refl, refl) (t.holds ∙ lawful.1) (λ x y. absurd (cc)) (length-append v.steps _) c.high)
 
     taken : n ≡ from → (h : Log) → IsOver (suc e.words) (took v (Cas cell from to) h from) → Sees v from h → IsHanded e (Left true) → IsMid s (took v (Cas cell from to) h from) (Left true) new
     taken hit h o c handed =
-        let w : View = took v (Cas cell from to) h from in
-        let went = i.went.looks in
         let seen : Sees v n h = subst (λ (x : ℕ). Sees v x h) (sym hit) c in
-        let count : length h ≡ n / 2 = seen.counts in
-        made w _ refl refl (tried h seen) o handed (record {
-          behind = (let r : n ≤ from = omega arith in r);
-          known = (let r : n / 2 ≤ length h = omega arith in r);
-          rises = (let a = t.behind in let b = seen.late in let r : e.clock ≤ n = omega arith in r);
-          holds = refl;
-          fresh = λ m l st. tt;
-          clocks = λ x. record { clock = sym hit; count = count };
-          holding = λ x y. record { laid = refl; got = tt };
-          freed = λ x. absurd (both e.freed x t.settled.unfreed);
-          mine = λ x. i.mine;
-          looked = λ x. inr (let r : s.view.looks < v.looks + 1 = omega arith in r);
-          taken = λ x y. (let r : s.view.looks < v.looks + 1 = omega arith in r);
-          opened = λ x y. record { clock = sym hit; count = count };
-          stepped = length-append v.steps _;
-          high = c.high;
-        })
+        made (took v (Cas cell from to) h from) _ refl refl (looks_at h seen) o handed
+        (looks_differ h seen (took v (Cas cell from to) h from) (Left true) (sym hit, refl, refl, refl) (refl, refl, refl) refl (λ x y. record { laid = refl; got = tt }) (length-append v.steps _) c.high)
 
     by_exchange : (w : View) → IsOver (suc e.words) w → StepTells v (Cas cell from to) n w → (b : Bool) → (n == from) ≡ b → IsHanded e (Left b) → IsMid s w (Left b) new
     by_exchange w o u true hit handed =
@@ -189,45 +167,18 @@ module _ (s : Start) (v : View) (e : Core) (step : Step) (i : InCall s v e step)
 
     by_reader : IsOver (suc e.words) (read v (Load (suc word)) word n) → e.holds ≡ false → IsHanded e (word_loaded e false word n) → IsMid s (read v (Load (suc word)) word n) (word_loaded e false word n) new
     by_reader o free handed =
+        let w : View = read v (Load (suc word)) word n in
         let inside = lawful.0 in
-        made (read v (Load (suc word)) word n) _ refl refl same_seen o handed (record {
-          stepped = length-append v.steps _;
-          high = (let r : v.high ≤ v.high = omega arith in r);
-          opened = open_before is_open (read v (Load (suc word)) word n) (word_loaded e false word n);
-          behind = t.behind;
-          known = t.known;
-          rises = (let r : e.clock ≤ e.clock = omega arith in r);
-          holds = t.holds;
-          fresh = λ m l st. (let r = stand_less m v.fresh word n st in agrees_more m e.fresh _ (t.fresh m l r.0) (get_of m word n (omega arith) r.1, tt));
-          clocks = λ y. (let c = t.clocks is_open in record { clock = c.clock; count = c.count });
-          holding = λ y z. absurd (both e.holds y free);
-          freed = λ y. absurd (both e.freed y t.settled.unfreed);
-          mine = λ y. i.mine;
-          looked = λ y. i.looked;
-          taken = λ y z. absurd (both e.holds y free);
-        })
+        let fresh : IsFresh w (word_loaded e false word n) = λ m l st. (let r = stand_less m v.fresh word n st in agrees_more m e.fresh _ (t.fresh m l r.0) (get_of m word n (omega arith) r.1, tt)) in
+        made w _ refl refl same_seen o handed
+        (still_differs w (word_loaded e false word n) is_open (refl, refl, refl, refl, refl, refl) (refl, refl, refl) fresh (λ y z. absurd (both e.holds y free)) (length-append v.steps _))
 
-    by_holder : IsOver (suc e.words) (noted v (Load (suc word)) n) → e.holds ≡ true → slice_get (held v) word ≡ Some n → IsHanded e (word_loaded e true word n) → IsMid s (noted v (Load (suc word)) n) (word_loaded e true word n) new
+    by_holder : IsOver (suc e.words) (noted v (Load (suc word)) n) → e.holds ≡ true → slice_get (held_words v) word ≡ Some n → IsHanded e (word_loaded e true word n) → IsMid s (noted v (Load (suc word)) n) (word_loaded e true word n) new
     by_holder o holds there handed =
-        made (noted v (Load (suc word)) n) _ refl refl same_seen o handed (record {
-          stepped = length-append v.steps _;
-          high = (let r : v.high ≤ v.high = omega arith in r);
-          opened = open_before is_open (noted v (Load (suc word)) n) (word_loaded e true word n);
-          behind = t.behind;
-          known = t.known;
-          rises = (let r : e.clock ≤ e.clock = omega arith in r);
-          holds = t.holds;
-          fresh = t.fresh;
-          clocks = λ y. (let c = t.clocks is_open in record { clock = c.clock; count = c.count });
-          holding = λ y z. record {
-            laid = (t.holding holds z).laid;
-            got = got_now (got_in e.stage n) (got_or e.stage n) (ap (slice_get (held v)) (sym (lawful.1.1 holds z).1) ∙ there);
-          };
-          freed = λ y. absurd (both e.freed y t.settled.unfreed);
-          mine = λ y. i.mine;
-          looked = λ y. i.looked;
-          taken = λ y z. i.taken holds z;
-        })
+        let w : View = noted v (Load (suc word)) n in
+        let got : e.irrevocable ≡ false → Got (word_loaded e true word n).got (slice_get (held_words v) (write_at e.writes e.done).word) = λ z. got_now (got_in e.stage n) (got_or e.stage n) (ap (slice_get (held_words v)) (sym (lawful.1.1 holds z).1) ∙ there) in
+        made w _ refl refl same_seen o handed
+        (still_differs w (word_loaded e true word n) is_open (refl, refl, refl, refl, refl, refl) (refl, refl, refl) t.fresh (λ y z. (record { laid = (t.holding holds z).laid; got = got z }, i.taken holds z)) (length-append v.steps _))
 
     by_word : (w : View) → IsOver (suc e.words) w → Loaded v (Load (suc word)) word n w → (b : Bool) → e.holds ≡ b → IsHanded e (word_loaded e b word n) → IsMid s w (word_loaded e b word n) new
     by_word w o u false free handed =
@@ -236,8 +187,8 @@ module _ (s : Start) (v : View) (e : Core) (step : Step) (i : InCall s v e step)
     by_word w o u true holds handed =
         let told = u.1 (t.holds ∙ holds) in
         let inside = lawful.0 in
-        let long : length (held v) ≡ e.words = (held_memory e.words v t.over).0 in
-        let there : slice_get (held v) word ≡ Some n = get_of (held v) word n (omega arith) (sym told.1) in
+        let long : length (held_words v) ≡ e.words = (held_memory e.words v t.over).0 in
+        let there : slice_get (held_words v) word ≡ Some n = get_of (held_words v) word n (omega arith) (sym told.1) in
         subst (λ (y : View). IsMid s y (word_loaded e true word n) new) (sym told.0) (by_holder (subst (IsOver (suc e.words)) told.0 o) holds there handed)
 
   -- ## The holder stores
@@ -251,14 +202,14 @@ module _ (s : Start) (v : View) (e : Core) (step : Step) (i : InCall s v e step)
     abbrev mid : Core
     mid = handed_to e (Some (Store (suc word) value)) n
 
-    laid_more : (b : Bool) → e.irrevocable ≡ b → e.irrevocable ≡ false → held (wrote v (Store (suc word) value) word value) ≡ backed mid (after v.base v.seen)
+    laid_more : (b : Bool) → e.irrevocable ≡ b → e.irrevocable ≡ false → held_words (wrote v (Store (suc word) value) word value) ≡ backed mid (after v.base v.seen)
     laid_more true i revocable = absurd (both e.irrevocable i revocable)
     laid_more false i revocable =
         let h = t.holding lawful.1 revocable in
         let m : List ℕ = after v.base v.seen in
         let fits : IsMemory e.words m = whole_memory e.words v t.over in
         let stores = lawful.2 revocable in
-        let got : Got e.got (slice_get (held v) word) = subst (λ (p : ℕ). Got e.got (slice_get (held v) p)) (sym stores.word_is) h.got in
+        let got : Got e.got (slice_get (held_words v) word) = subst (λ (p : ℕ). Got e.got (slice_get (held_words v) p)) (sym stores.word_is) h.got in
         let got' : Got e.got (slice_get (backed e m) word) = subst (λ (l : List ℕ). Got e.got (slice_get l word)) h.laid got in
         let done : (if e.irrevocable then e.done else e.done + 1) ≡ e.done + 1 = ap (λ (x : Bool). if x then e.done else e.done + 1) i in
         stored_snoc m v.done (word, value) ∙ (ap (λ (l : List ℕ). set l word value) h.laid ∙ (sym (stores.value_is m fits got') ∙ ap (λ (d : ℕ). overlay m (take d e.writes)) (sym done)))
@@ -266,24 +217,9 @@ module _ (s : Start) (v : View) (e : Core) (step : Step) (i : InCall s v e step)
     by_store : (w : View) → IsOver (suc e.words) w → w ≡ wrote v (Store (suc word) value) word value → IsMid s w mid new
     by_store w o is_wrote =
         let x : View = wrote v (Store (suc word) value) word value in
-        let is_open : in_transaction e ≡ true = (t.settled.holder lawful.1).0 in
-        let there : IsMid s x mid new = made x mid refl refl still_seen (subst (IsOver (suc e.words)) is_wrote o) (handed_is e (Store (suc word) value) n) (record {
-          stepped = length-append v.steps _;
-          high = (let r : v.high ≤ v.high = omega arith in r);
-          opened = open_before is_open x mid;
-          behind = t.behind;
-          known = t.known;
-          rises = (let r : e.clock ≤ e.clock = omega arith in r);
-          holds = t.holds;
-          fresh = t.fresh;
-          clocks = λ y. (let c = t.clocks is_open in record { clock = c.clock; count = c.count });
-          holding = λ y z. record { laid = laid_more e.irrevocable refl z; got = tt };
-          freed = λ y. absurd (both e.freed y t.settled.unfreed);
-          mine = λ y. i.mine;
-          looked = λ y. i.looked;
-          taken = λ y z. i.taken lawful.1 z;
-        }) in
-        subst (λ (y : View). IsMid s y mid new) (sym is_wrote) there
+        subst (λ (y : View). IsMid s y mid new) (sym is_wrote)
+        (made x mid refl refl still_seen (subst (IsOver (suc e.words)) is_wrote o) (handed_is e (Store (suc word) value) n)
+        (still_differs x mid (t.settled.holder lawful.1).0 (refl, refl, refl, refl, refl, refl) (refl, refl, refl) t.fresh (λ y z. (record { laid = laid_more e.irrevocable refl z; got = tt }, i.taken lawful.1 z)) (length-append v.steps _)))
 
   -- ## The holder frees the clock
 
@@ -311,7 +247,7 @@ module _ (s : Start) (v : View) (e : Core) (step : Step) (i : InCall s v e step)
         let there : IsMid s x mid new = made x mid refl refl freed_seen (subst (IsOver (suc e.words)) is_freed o) (handed_is e (Store 0 value) n) (record {
           stepped = length-append v.steps _;
           high = late;
-          opened = open_before is_open x mid;
+          opened = λ y z. record { clock = refl; count = long };
           behind = (let r : value ≤ value = omega arith in r);
           known = (let r : value / 2 ≤ length (v.seen ++ v.done ∷ []) = omega arith in r);
           rises = (let r : e.clock ≤ value = omega arith in r);
@@ -357,17 +293,4 @@ module _ (s : Start) (v : View) (e : Core) (n : ℕ) (new : Core) (joins : Joins
       (ap (λ (x : View). x.clock) is, omega arith)
   closed_look (Load (suc word)) i c u = absurd (both (in_transaction e) i.lawful.1.0 c)
   closed_look (Store cell value) i c u = absurd (both (in_transaction e) (i.tied.settled.holder i.lawful.1).0 c)
-  closed_look (Cas cell from to) i c u = by_found (n == from) refl
-    where
-      by_found : (b : Bool) → (n == from) ≡ b → (w.clock ≡ n) × (s.view.looks < w.looks)
-      by_found true hit =
-          let same : n ≡ from = eqb-true n from hit in
-          let is = (u.0 same).0 in
-          let looks : w.looks ≡ v.looks + 1 = ap (λ (x : View). x.looks) is in
-          let went = i.went.looks in
-          (ap (λ (x : View). x.clock) is ∙ sym same, omega arith)
-      by_found false miss =
-          let is = (u.1 (λ same. both (n == from) (eq-eqb n from same) miss)).0 in
-          let looks : w.looks ≡ v.looks + 1 = ap (λ (x : View). x.looks) is in
-          let went = i.went.looks in
-          (ap (λ (x : View). x.clock) is, omega arith)
+  closed_look (Cas cell from to) i c u = (let x = exchanged v w n cell from to u in let looks = x.looks in let went = i.went.looks in (x.clock, omega arith))

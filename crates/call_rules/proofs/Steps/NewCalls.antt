@@ -1,12 +1,12 @@
 -- A call comes, and the engine asks for a step.
 use Rattle.std.proofs.Common.{◌≡◌, ◌≢◌, inl, inr, ℕ, suc, ◌+◌, ◌/◌, ◌≤◌, Bool, true, List, [], ◌∷◌, length, ◌++◌, None, Some, refl, sym, ap, subst, ◌∙◌, arith}
-use Rattle.call_rules.proofs.Common.{Agrees, AreRead, Asks, AsksFor, Call, ComesHeld, Core, Follows, Frame, Grew, Grows, InCall, IsHolding, IsMemory, IsOpening, IsOver, IsSettled, IsWithin, Keeps, LogRow, Next, Proceeds, Stands, Start, StaysOn, Step, View, after, asked, asked_from, came, held, in_transaction, is_inside, keeps_asked, keeps_self, keeps_twice, length_stored, memory_of, most, most_same, none_got, pending, reads_of, shut_revocable, stage_at, starts_self, stored_fits, tries_at}
+use Rattle.call_rules.proofs.Common.{Agrees, AreRead, Asks, AsksFor, Call, ComesHeld, Core, Follows, Frame, Grew, Grows, InCall, IsHolding, IsMemory, IsOpening, IsOver, IsSettled, IsWithin, Keeps, LogRow, Next, Proceeds, Stands, Start, StaysOn, Step, View, after, asked, asked_from, came, held_words, in_transaction, is_inside, keeps_asked, keeps_self, keeps_twice, length_stored, memory_of, most, most_same, none_got, pending, reads_of, shut_revocable, stage_at, starts_self, stored_fits, tries_at}
 use Rattle.call_rules.proofs.Steps.Tries.{first_opens, first_tries}
 use Rattle.call_rules.proofs.Steps.LastLoads.{no_last}
 use Rattle.call_rules.proofs.Steps.CallsInHand.{both, IsMid, IsHeldMid, Tried, whole_memory}
 
 -- the words that are held are a memory
-pub held_memory : (words : ℕ) (v : View) → IsOver (suc words) v → IsMemory words (held v)
+pub held_memory : (words : ℕ) (v : View) → IsOver (suc words) v → IsMemory words (held_words v)
 held_memory words v o = let whole = whole_memory words v o in (length_stored (after v.base v.seen) v.done ∙ whole.0, stored_fits (after v.base v.seen) v.done whole.1 o.done_fits)
 
 module _ (s : Start) (w : View) (mid new : Core) (m : IsMid s w mid new) where
@@ -129,6 +129,6 @@ module _ (v : View) (e new : Core) (call : Call) (again : Bool) (t : Stands v e)
 
   pub comes_held : (what : Next) → Proceeds (came e call again) what new → (e.irrevocable ≡ true → ComesHeld e call what new) → e.irrevocable ≡ true → IsHeldMid start v what new
   comes_held what g held_by i = record {
-    comes = held_by i (held v) (held_memory e.words v t.over);
-    got = λ word value is. none_got (came e call again) new what g refl word value (held v) is;
+    comes = held_by i (held_words v) (held_memory e.words v t.over);
+    got = λ word value is. none_got (came e call again) new what g refl word value (held_words v) is;
   }

@@ -1,11 +1,27 @@
 -- What the next view has seen, and what the log comes to by it.
-use Rattle.std.proofs.Common.{◌≡◌, ◌⊎◌, inl, inr, ℕ, ◌+◌, ◌/◌, ◌%◌, ◌<◌, ◌≤◌, true, false, List, length, Some, sym, ap, subst, ◌∙◌, arith}
-use Rattle.call_rules.proofs.Common.{Agrees, Cas, Core, GoesBack, GoesOver, Grows, InCall, IsLawful, IsSettled, IsTied, Joins, Load, LogRow, Settles, Stand, Start, StartsWith, Step, View, Went, after, agrees_less, in_transaction, is_inside, length_after, log_longer, memory_at, memory_of, memory_stays, snapshot_late, starts_le, starts_trans, still_logged, take_all}
+use Rattle.std.proofs.Common.{◌≡◌, ◌≢◌, ◌⊎◌, inl, inr, ℕ, ◌+◌, ◌/◌, ◌%◌, ◌<◌, ◌≤◌, true, false, List, [], ◌∷◌, ◌++◌, length, Some, sym, ap, subst, ◌∙◌, arith}
+use Rattle.call_rules.proofs.Common.{Agrees, Cas, Core, GoesBack, GoesOver, Grows, InCall, IsLawful, IsSettled, IsTied, Joins, Load, LogRow, Settles, Stand, Start, StartsWith, Step, StepTells, View, Went, after, agrees_less, dite, in_transaction, is_inside, length_after, log_longer, memory_at, memory_of, memory_stays, snapshot_late, starts_le, starts_trans, still_logged, take_all, ℕ_discrete}
 use Rattle.norec_core.proofs.Logs as logs
 use Rattle.call_rules.proofs.Steps.CallsInHand.{Before, both}
 
 abbrev pub Log : Type 0
 Log = List (List (ℕ × ℕ))
+
+-- an exchange looks at the clock, whether it takes it or not
+pub record IsExchanged (v w : View) (n : ℕ) (step : Step) : Type 0 where
+  pub clock : w.clock ≡ n
+  pub looks : w.looks ≡ v.looks + 1
+  pub steps : w.steps ≡ v.steps ++ (step, n) ∷ []
+  pub late : v.clock ≤ n
+
+pub exchanged : (v w : View) (n cell from to : ℕ) → StepTells v (Cas cell from to) n w → IsExchanged v w n (Cas cell from to)
+exchanged v w n cell from to u = dite (ℕ_discrete n from) (λ (hit : n ≡ from). taken hit) (λ (miss : n ≢ from). missed miss)
+  where
+    taken : n ≡ from → IsExchanged v w n (Cas cell from to)
+    taken hit = (let is = (u.0 hit).0 in let at = (u.0 hit).1.late in record { clock = ap (λ (x : View). x.clock) is ∙ sym hit; looks = ap (λ (x : View). x.looks) is; steps = ap (λ (x : View). x.steps) is ∙ ap (λ (m : ℕ). v.steps ++ (Cas cell from to, m) ∷ []) (sym hit); late = omega arith })
+
+    missed : n ≢ from → IsExchanged v w n (Cas cell from to)
+    missed miss = (let is = (u.1 miss).0 in record { clock = ap (λ (x : View). x.clock) is; looks = ap (λ (x : View). x.looks) is; steps = ap (λ (x : View). x.steps) is; late = (u.1 miss).1.late })
 
 module _ (s : Start) (v : View) (e : Core) (step : Step) (i : InCall s v e step) (n : ℕ) (new : Core) (joins : Joins e n new) (settled : IsSettled new) where
   t : IsTied v e

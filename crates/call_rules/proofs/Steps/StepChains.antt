@@ -1,14 +1,15 @@
 -- From step to step of a call.
-use Rattle.std.proofs.Common.{◌≡◌, ◌≢◌, ℕ, zero, suc, ◌+◌, ◌/◌, ◌<◌, ◌≤◌, Bool, true, false, Option, None, Some, IsSome, slice_get, refl, sym, ap, subst, ◌∙◌, arith}
-use Rattle.call_rules.proofs.Common.{Answer, Answers, Asks, Busy, Call, Cas, Conflict, Core, Ends, EndsSo, Fits, FitsStep, Got, Idle, InCall, IsCalled, IsDue, IsEnding, IsLawful, IsOpening, IsOver, IsPatient, IsResumed, IsTied, Lawful, Load, Next, Phase, Proceeds, Stands, Start, Step, StepTells, Store, View, WasFound, asked_from, came, cell_of, dite, ending_after, ending_from, handed_is, handed_to, held, in_transaction, is_inside, left, most, most_same, pending, rests, stage_from, ℕ_discrete}
+use Rattle.std.proofs.Common.{◌≡◌, ℕ, zero, suc, ◌+◌, ◌/◌, ◌<◌, ◌≤◌, Bool, true, false, Option, None, Some, IsSome, slice_get, refl, sym, ap, subst, ◌∙◌, arith}
+use Rattle.call_rules.proofs.Common.{Answer, Answers, Asks, Busy, Call, Cas, Conflict, Core, Ends, EndsSo, Fits, FitsStep, Got, Idle, InCall, IsCalled, IsDue, IsEnding, IsLawful, IsOpening, IsOver, IsPatient, IsResumed, IsTied, Lawful, Load, Next, Phase, Proceeds, Stands, Start, Step, StepTells, Store, View, WasFound, asked_from, came, cell_of, ending_after, ending_from, handed_is, handed_to, held_words, in_transaction, is_inside, left, most, most_same, pending, rests, stage_from}
 use Rattle.itm_types.specs.declared.limits.TheConstants.{MAX_COMMITS}
+use Rattle.call_rules.proofs.Steps.NextViews.{exchanged}
 use Rattle.call_rules.proofs.Steps.CallsInHand.{IsMid, IsHeldMid, Tried}
 use Rattle.call_rules.proofs.Steps.NewCalls.{comes, comes_held, comes_tried}
 use Rattle.call_rules.proofs.Steps.HandedValues.{hands, closed_look}
 use Rattle.call_rules.proofs.Steps.HeldSteps.{hands_held}
 use Rattle.call_rules.proofs.Calls.Answers.{due, may, at_once, HasLooked, MayAnswer}
 use Rattle.call_rules.proofs.Steps.LastLoads.{loads_on}
-use Rattle.call_rules.proofs.Steps.Tries.{busy_last, goes_begin, lost_last, next_opens, next_tries, pended}
+use Rattle.call_rules.proofs.Steps.Tries.{goes_begin, last_try, next_opens, next_tries, pended}
 
 pub at_step : (s : Start) (v : View) (e : Core) (next : Next) (step : Step) → next ≡ Asks step → IsDue s v e next → InCall s v e step
 at_step s v e next step is d = subst (IsDue s v e) is d
@@ -22,13 +23,13 @@ lawful_of v e t (Cas cell from to) l = let few = t.settled.limit in let less = l
 
 -- what the engine has found of a word that it stores is what the holder's stores have left
 pub got_there : (s : Start) (v : View) (e : Core) (step : Step) (found : Option ℕ) → InCall s v e step → found ≡ e.got → WasFound v step found
-got_there s v e (Store (suc word) value) found i is = by_found found (subst (λ (o : Option ℕ). Got o (slice_get (held v) word)) (sym is) (by_mode e.irrevocable refl))
+got_there s v e (Store (suc word) value) found i is = by_found found (subst (λ (o : Option ℕ). Got o (slice_get (held_words v) word)) (sym is) (by_mode e.irrevocable refl))
   where
-    by_mode : (b : Bool) → e.irrevocable ≡ b → Got e.got (slice_get (held v) word)
+    by_mode : (b : Bool) → e.irrevocable ≡ b → Got e.got (slice_get (held_words v) word)
     by_mode true irr = (i.held_on (sym i.kept.irrevocable ∙ irr)).got word value i.waits
-    by_mode false revocable = (let stores = i.lawful.2 revocable in subst (λ (w : ℕ). Got e.got (slice_get (held v) w)) (sym stores.word_is) (i.tied.holding i.lawful.1 revocable).got)
+    by_mode false revocable = (let stores = i.lawful.2 revocable in subst (λ (w : ℕ). Got e.got (slice_get (held_words v) w)) (sym stores.word_is) (i.tied.holding i.lawful.1 revocable).got)
 
-    by_found : (o : Option ℕ) → Got o (slice_get (held v) word) → WasFound v (Store (suc word) value) o
+    by_found : (o : Option ℕ) → Got o (slice_get (held_words v) word) → WasFound v (Store (suc word) value) o
     by_found None g = tt
     by_found (Some n) g = g
 got_there s v e step found i is = tt
@@ -41,13 +42,14 @@ inside e (Cas cell from to) l = let z = l.0 in omega arith
 pub cell_within : (cells : ℕ) (v : View) (e : Core) (step : Step) → IsOver cells v → IsTied v e → IsLawful e step → cell_of step < cells
 cell_within cells v e step o t l = let a = o.size in let b = t.over.size in let c = inside e step l in omega arith
 
+pub over_so : (cells : ℕ) (v w : View) (e : Core) → IsOver cells v → IsTied v e → IsOver cells w → IsOver (suc e.words) w
+over_so cells v w e o t over = (let a = o.size in let b = t.over.size in let same : cells ≡ suc e.words = omega arith in subst (λ (k : ℕ). IsOver k w) same over)
+
 fits_step : (v w : View) (e : Core) (n : ℕ) → IsTied v e → (step : Step) → StepTells v step n w → FitsStep e (Some step) n
 fits_step v w e n t (Load zero) u = let a = (u.0 refl).1.late in let b = t.behind in omega arith
 fits_step v w e n t (Load (suc word)) u = tt
 fits_step v w e n t (Store cell value) u = tt
-fits_step v w e n t (Cas cell from to) u = let b = t.behind in dite (ℕ_discrete n from)
-    (λ (hit : n ≡ from). (let a = (u.0 hit).1.late in let r : e.clock ≤ n = omega arith in r))
-    (λ (miss : n ≢ from). (let a = (u.1 miss).1.late in let r : e.clock ≤ n = omega arith in r))
+fits_step v w e n t (Cas cell from to) u = let b = t.behind in let a = (exchanged v w n cell from to u).late in omega arith
 
 pub fits_of : (s : Start) (v w : View) (e : Core) (n : ℕ) (step : Step) → InCall s v e step → StepTells v step n w → Fits e n
 fits_of s v w e n step i u = subst (λ (o : Option Step). FitsStep e o n) (sym i.waits) (fits_step v w e n i.tied step u)
@@ -61,7 +63,7 @@ idle_of c p e = absurd (cc)
 
 module _ (cells : ℕ) (v w : View) (ov : IsOver cells v) (ow : IsOver cells w) (e new : Core) (step : Step) (n : ℕ) (turn : StepTells v step n w)
     (next : Next) (r : IsResumed e n next new) where
-  went : (s : Start) → InCall s v e step → Proceeds (handed_to e (Some step) n) next new
+  pub went : (s : Start) → InCall s v e step → Proceeds (handed_to e (Some step) n) next new
   went s i = subst (λ (o : Option Step). Proceeds (handed_to e o n) next new) i.waits r.proceeds
 
   -- the looks make up for the tries
@@ -94,10 +96,7 @@ module _ (cells : ℕ) (v w : View) (ov : IsOver cells v) (ow : IsOver cells w) 
 
   pub goes : (s : Start) → InCall s v e step → IsDue s w new next
   goes s i =
-      let a = ov.size in
-      let b = i.tied.over.size in
-      let same : cells ≡ suc e.words = omega arith in
-      let over : IsOver (suc e.words) w = subst (λ (k : ℕ). IsOver k w) same ow in
+      let over = over_so cells v w e ov i.tied ow in
       let m : IsMid s w (handed_to e (Some step) n) new = hands s v e n new r.joins r.settled r.asks w over step i turn in
       let looked = λ (c : in_transaction (handed_to e (Some step) n) ≡ false). closed_look s v e n new r.joins r.settled r.asks w over step i (sym (ap is_inside (handed_is e step n).keeps.blocks) ∙ c) turn in
       let on : s.engine.irrevocable ≡ true → IsHeldMid s w next new = λ irr.
@@ -109,12 +108,12 @@ module _ (cells : ℕ) (v w : View) (ov : IsOver cells v) (ow : IsOver cells w) 
       by_answer s i m looked (Conflict clock word) is = (
         looked,
         (
-          (λ none. patient s i (lost_last e n clock e.stage (subst (λ (o : Option ℕ). IsEnding (ending_from e e.stage n) (Conflict clock o)) none (ended_so (Conflict clock word) is)) (rested s i (Conflict clock word) is))),
+          (λ none. patient s i (last_try e n (Conflict clock None) tt e.stage (subst (λ (o : Option ℕ). IsEnding (ending_from e e.stage n) (Conflict clock o)) none (ended_so (Conflict clock word) is)) (rested s i (Conflict clock word) is))),
           (λ shut. (let closed : in_transaction e ≡ false = ap is_inside i.kept.blocks ∙ shut in goes_begin e s.call step n clock word closed i.kept.doing (sym i.waits ∙ i.asks) i.lawful e.stage refl (i.opening closed) (ended_so (Conflict clock word) is))),
           (tried_on s i).loads,
         ),
       )
-      by_answer s i m looked (Busy clock) is = (looked, patient s i (busy_last e n clock e.stage (ended_so (Busy clock) is) (rested s i (Busy clock) is)))
+      by_answer s i m looked (Busy clock) is = (looked, patient s i (last_try e n (Busy clock) tt e.stage (ended_so (Busy clock) is) (rested s i (Busy clock) is)))
       by_answer s i m looked a is = tt
 
   less : (s : Start) → InCall s v e step → (next' : Next) → Proceeds (handed_to e (Some step) n) next' new → IsDue s w new next' → left new next' < left e (Asks step)

@@ -1,9 +1,10 @@
 -- How often a call has tried as it gives up, and what asks for a step outside a transaction.
 use Rattle.std.proofs.Common.{inl, inr, ◌≡◌, ◌≢◌, ℕ, zero, suc, ◌+◌, ◌*◌, ◌/◌, ◌%◌, ◌≤◌, ◌==◌, ◌&&◌, not, nat_le, nat_lt, Bool, true, false, List, [], ◌∷◌, length, if◌then◌else◌, is_none, Option, None, Some, refl, ap, subst, ◌∙◌, arith}
-use Rattle.call_rules.proofs.Common.{Answer, Busy, Call, Cas, Confirm, Conflict, Core, Exchange, Frame, Free, Full, GoesBegin, Idle, IsEnding, IsLawful, IsOpening, Phase, Restarted, RoundBack, RoundEnd, RoundRow, RoundStart, Step, StepTells, Store, Take, TakesFor, View, again_stage, aimed_ending, asked, asked_from, begin_stage, cases_Bool, commit_stage, copying_stage, dite, ending_from, fill_from, going_stage, in_transaction, is_inside, is_outermost, ltb-false, may_go, pending, place_from, placed_in, read_stage, row_stage, stage_at, stage_from, stays_revocable, tries_after, tries_at, try_stage, value_reading, value_writing, ℕ_discrete}
+use Rattle.call_rules.proofs.Common.{Answer, Busy, Call, Cas, Confirm, Conflict, Core, Exchange, Frame, Free, Full, GoesBegin, Idle, IsEnding, IsLawful, IsOpening, Phase, Restarted, RoundBack, RoundEnd, RoundRow, RoundStart, Step, StepTells, Store, Take, TakesFor, View, again_stage, aimed_ending, asked, asked_from, begin_stage, cases_Bool, commit_stage, copying_stage, ending_from, fill_from, going_stage, in_transaction, is_inside, is_outermost, ltb-false, may_go, pending, place_from, placed_in, read_stage, row_stage, stage_at, stage_from, stays_revocable, tries_after, tries_at, try_stage, value_reading, value_writing}
 use Rattle.itm_types.specs.Access.{size_of}
 use Rattle.itm_types.specs.declared.call.Call.TheVariants as calls
 use Rattle.itm_types.specs.declared.step.Step.TheVariants as steps
+use Rattle.norec_core.specs.declared.answer.Answer.TheVariants.{Reply as Answered}
 use Rattle.norec_core.specs.Aims.{Aim}
 use Rattle.norec_core.specs.Aims as aims
 use Rattle.norec_core.specs.declared.call_parts.Opening.{Opening}
@@ -11,7 +12,7 @@ use Rattle.norec_core.specs.Phases.{Begin}
 use Rattle.norec_core.specs.declared.call_parts.Taking.TheVariants as takings
 use Rattle.norec_core.specs.Copies.{copy_refusal}
 use Rattle.norec_core.specs.Rows.{row_at}
-use Rattle.call_rules.proofs.Steps.CallsInHand.{both}
+use Rattle.call_rules.{proofs.Steps.CallsInHand.both, proofs.Steps.NextViews.exchanged}
 
 -- ## Looks
 
@@ -23,9 +24,7 @@ looks_on v w n (steps.Load (suc word)) u =
     omega arith
 looks_on v w n (Store zero value) u = let is : w.looks ≡ v.looks = ap (λ (x : View). x.looks) (u.0 refl).0 in omega arith
 looks_on v w n (Store (suc word) value) u = let is : w.looks ≡ v.looks = ap (λ (x : View). x.looks) (u.1 word (let x : suc word ≡ word + 1 = omega arith in x)) in omega arith
-looks_on v w n (Cas cell from to) u = dite (ℕ_discrete n from)
-    (λ (hit : n ≡ from). (let is : w.looks ≡ v.looks + 1 = ap (λ (x : View). x.looks) (u.0 hit).0 in let r : v.looks ≤ w.looks = omega arith in r))
-    (λ (miss : n ≢ from). (let is : w.looks ≡ v.looks + 1 = ap (λ (x : View). x.looks) (u.1 miss).0 in let r : v.looks ≤ w.looks = omega arith in r))
+looks_on v w n (Cas cell from to) u = let looks = (exchanged v w n cell from to u).looks in omega arith
 
 -- a load of the clock is a look
 looks_more : (v w : View) (n : ℕ) (step : Step) → step ≡ steps.Load 0 → StepTells v step n w → v.looks + 1 ≤ w.looks
@@ -113,70 +112,45 @@ not_begun seen clock word true true g = absurd (cc)
 not_begun seen clock word true false g = g
 not_begun seen clock word false goes g = absurd (cc)
 
-module _ (c : Core) (seen clock : ℕ) where
-  abbrev Lost : Answer
-  Lost = Conflict clock None
+-- a conflict that no word tells of, and a clock that is held
+abbrev pub GivesUp : Answer → Type 0
+GivesUp (Conflict clock None) = Unit {0}
+GivesUp (Busy clock) = Unit {0}
+GivesUp a = ⊥
+
+no_reply : (a : Answer) → GivesUp a → IsEnding None a → ⊥
+no_reply (Answered r) up g = up
+no_reply a up g = g
+
+module _ (c : Core) (seen : ℕ) (a : Answer) (up : GivesUp a) where
+  full_end : (b : Bool) → IsEnding (if b then Some (Full (seen / 2)) else None) a → ⊥
+  full_end true g = subst GivesUp g up
+  full_end false g = no_reply a up g
+
+  aimed_end : (aim : Aim) → IsEnding (aimed_ending aim seen) a → ⊥
+  aimed_end (aims.Read r) g = no_reply a up g
+  aimed_end (aims.Take taking) g = subst GivesUp g up
 
   -- another clock was found than was wanted
-  by_same : (b : Bool) (x y : Phase) → y ≢ Idle → IsEnding (if b then None else Some (Conflict seen None)) Lost → (if b then x else (if nat_lt c.tries c.patience then y else Idle)) ≡ Idle → c.patience ≤ c.tries
-  by_same true x y some g is = absurd g
-  by_same false x y some g is = none_left c.tries c.patience y some is
+  by_same : (b : Bool) (end lost : Option Answer) (x y : Phase) → (IsEnding end a → ⊥) → y ≢ Idle → IsEnding (if b then end else lost) a → (if b then x else (if nat_lt c.tries c.patience then y else Idle)) ≡ Idle → c.patience ≤ c.tries
+  by_same true end lost x y never some g is = absurd (never g)
+  by_same false end lost x y never some g is = none_left c.tries c.patience y some is
 
   by_even : (b : Bool) (aim : Aim) → (if b then row_stage (length c.log) aim 0 else try_stage c.tries c.patience aim) ≡ Idle → c.patience ≤ c.tries
   by_even true aim is = absurd (not_row (length c.log) aim 0 is)
   by_even false aim is = none_left c.tries c.patience (RoundStart aim) (not_round aim) is
 
-  by_end : (b : Bool) (aim : Aim) (x : Phase) → IsEnding (if b then aimed_ending aim seen else Some (Conflict seen None)) Lost → (if b then x else try_stage c.tries c.patience aim) ≡ Idle → c.patience ≤ c.tries
-  by_end true (aims.Read r) x g is = absurd g
-  by_end true (aims.Take taking) x g is = absurd (cc)
-  by_end false aim x g is = none_left c.tries c.patience (RoundStart aim) (not_round aim) is
-
-  by_back : (b : Bool) (aim : Aim) (word : ℕ) → IsEnding (if b then Some (Restarted seen word) else Some (Conflict seen None)) Lost → (if b then Idle else try_stage c.tries c.patience aim) ≡ Idle → c.patience ≤ c.tries
-  by_back true aim word g is = absurd (cc)
-  by_back false aim word g is = none_left c.tries c.patience (RoundStart aim) (not_round aim) is
-
-  pub lost_last : (p : Phase) → IsEnding (ending_from c p seen) Lost → stage_from c p seen ≡ Idle → c.patience ≤ c.tries
-  lost_last (Begin b) g is = absurd (not_begun seen clock None (seen % 2 == 0) b.props.goes_irrevocable g)
-  lost_last (Take b) g is = by_same (seen == c.snapshot) _ (Begin b) (not_begin b) g is
-  lost_last (Confirm r value) g is = by_same (seen == c.snapshot) _ (RoundStart (aims.Read r)) (not_round (aims.Read r)) g is
-  lost_last (RoundStart aim) g is = by_even (seen % 2 == 0) aim is
-  lost_last (RoundRow aim row) g is = absurd (cc)
-  lost_last (RoundEnd aim) g is = by_end (seen == c.clock) aim _ g is
-  lost_last (RoundBack aim row) g is = by_back (seen == c.clock) aim (row_at c.log row).word g is
-  lost_last (Exchange taking) g is = by_same (seen == c.snapshot) _ (RoundStart (aims.Take taking)) (not_round (aims.Take taking)) g is
-  lost_last Free g is = absurd (cc)
-  lost_last p g is = absurd g
-
-  -- a begin alone is busy
-  busy_begin : (even goes : Bool) (b : Opening) (x : Phase) → IsEnding (if even then (if goes then Some (Full (seen / 2)) else None) else Some (Busy seen)) (Busy clock) → (if even then x else again_stage c b) ≡ Idle → c.patience ≤ c.tries
-  busy_begin true true b x g is = absurd (cc)
-  busy_begin true false b x g is = absurd g
-  busy_begin false goes b x g is = none_left c.tries c.patience (Begin b) (not_begin b) is
-
-  not_busy : (b : Bool) → IsEnding (if b then None else Some (Conflict seen None)) (Busy clock) → ⊥
-  not_busy true g = g
-  not_busy false g = absurd (cc)
-
-  not_busy_end : (b : Bool) (aim : Aim) → IsEnding (if b then aimed_ending aim seen else Some (Conflict seen None)) (Busy clock) → ⊥
-  not_busy_end true (aims.Read r) g = g
-  not_busy_end true (aims.Take taking) g = absurd (cc)
-  not_busy_end false aim g = absurd (cc)
-
-  not_busy_back : (b : Bool) (word : ℕ) → IsEnding (if b then Some (Restarted seen word) else Some (Conflict seen None)) (Busy clock) → ⊥
-  not_busy_back true word g = absurd (cc)
-  not_busy_back false word g = absurd (cc)
-
-  pub busy_last : (p : Phase) → IsEnding (ending_from c p seen) (Busy clock) → stage_from c p seen ≡ Idle → c.patience ≤ c.tries
-  busy_last (Begin b) g is = busy_begin (seen % 2 == 0) b.props.goes_irrevocable b _ g is
-  busy_last (Take b) g is = absurd (not_busy (seen == c.snapshot) g)
-  busy_last (Confirm r value) g is = absurd (not_busy (seen == c.snapshot) g)
-  busy_last (RoundStart aim) g is = absurd (cc)
-  busy_last (RoundRow aim row) g is = absurd (cc)
-  busy_last (RoundEnd aim) g is = absurd (not_busy_end (seen == c.clock) aim g)
-  busy_last (RoundBack aim row) g is = absurd (not_busy_back (seen == c.clock) (row_at c.log row).word g)
-  busy_last (Exchange taking) g is = absurd (not_busy (seen == c.snapshot) g)
-  busy_last Free g is = absurd (cc)
-  busy_last p g is = absurd g
+  pub last_try : (p : Phase) → IsEnding (ending_from c p seen) a → stage_from c p seen ≡ Idle → c.patience ≤ c.tries
+  last_try (Begin b) g is = by_same (seen % 2 == 0) (if b.props.goes_irrevocable then Some (Full (seen / 2)) else None) _ _ (Begin b) (full_end b.props.goes_irrevocable) (not_begin b) g is
+  last_try (Take b) g is = by_same (seen == c.snapshot) None _ _ (Begin b) (no_reply a up) (not_begin b) g is
+  last_try (Confirm r value) g is = by_same (seen == c.snapshot) None _ _ (RoundStart (aims.Read r)) (no_reply a up) (not_round (aims.Read r)) g is
+  last_try (RoundStart aim) g is = by_even (seen % 2 == 0) aim is
+  last_try (RoundRow aim row) g is = absurd (subst GivesUp g up)
+  last_try (RoundEnd aim) g is = by_same (seen == c.clock) (aimed_ending aim seen) _ _ (RoundStart aim) (aimed_end aim) (not_round aim) g is
+  last_try (RoundBack aim row) g is = by_same (seen == c.clock) (Some (Restarted seen (row_at c.log row).word)) _ _ (RoundStart aim) (λ back. subst GivesUp back up) (not_round aim) g is
+  last_try (Exchange taking) g is = by_same (seen == c.snapshot) None _ _ (RoundStart (aims.Take taking)) (no_reply a up) (not_round (aims.Take taking)) g is
+  last_try Free g is = absurd (subst GivesUp g up)
+  last_try p g is = absurd (no_reply a up g)
 
 -- a begin alone loses the clock outside, and it goes irrevocable
 takes_goes : (c : Core) (call : Call) → in_transaction c ≡ false → TakesFor c (Some call) → GoesBegin call

@@ -1,6 +1,6 @@
 //! What is said where a command did not do its work.
 
-use script_asm::{AsmFault, AsmKind};
+use script_asm::{AsmFault, FaultKind};
 use std::test::*;
 use text_commands::Failure;
 
@@ -8,7 +8,7 @@ use text_commands::Failure;
 fn texts(rt: HostRuntime) -> Result<(), Fail> {
     let fault = AsmFault {
         line: 12,
-        kind: AsmKind::Range,
+        kind: FaultKind::Range,
     };
     for (failure, text) in [
         (Failure::Faulty(fault), "line 12: out of range"),

@@ -1,7 +1,7 @@
 //! What faults and operands say.
 
 use norec_world::WorldFault;
-use script_fields::{AsmFault, AsmKind, Place, Register};
+use script_fields::{AsmFault, FaultKind, Place, Register};
 use std::alloc::Global;
 use std::process::Abort;
 use std::test::*;
@@ -34,7 +34,7 @@ fn tells(rt: &impl Abort, alloc: Global, fault: AsmFault, text: &str) -> Result<
 fn parts_of_scripts(rt: HostRuntime) -> Result<(), Fail> {
     let fault = AsmFault {
         line: 12,
-        kind: AsmKind::Memory,
+        kind: FaultKind::Memory,
     };
     tells(&rt, rt.alloc(), fault, "line 12: no memory")?;
     stands(&rt, rt.alloc(), Place::Register(Register::R11), "r11")?;

@@ -1,10 +1,9 @@
 -- The commits stay in order over an event.
-use Rattle.std.proofs.Common.{◌≡◌, inl, inr, ℕ, ◌+◌, ◌*◌, ◌/◌, ◌%◌, ◌≤◌, ◌==◌, ◌&&◌, Bool, true, false, nat_lt, List, [], ◌∷◌, ◌++◌, Some, slice_get, slice_set, refl, sym, ap, subst, ◌∙◌, arith}
-use Rattle.event_rules.proofs.Common.{Actor, AreActors, AreCounted, AreEnded, AreOutrun, AreUnfinished, Attempt, Cells, CommitsInOrder, EndsAt, IsEvent, IsFirst, Limits, Outcome, Prior, Rows, Rules, Tries, World, begins, between, both_ways, count_at, count_committed, false_from_ne_true, is_at, is_committed, le-ltb, limits_of, odd_or_even, one_where, outrun, outrun_none, over, prior_of, runs, set_place, shut_out, turned_away}
-use Rattle.event_rules.proofs.Commits.OutrunConflicts.{outrun_after}
+use Rattle.std.proofs.Common.{◌≡◌, ◌⊎◌, inl, inr, ℕ, ◌+◌, ◌*◌, ◌/◌, ◌%◌, ◌<◌, ◌≤◌, ◌==◌, ◌&&◌, Bool, true, false, nat_lt, List, [], ◌∷◌, ◌++◌, Some, slice_get, slice_set, refl, sym, ap, subst, ◌∙◌, arith}
+use Rattle.event_rules.proofs.Common.{Actor, AllByRecursion, AreActors, AreCounted, AreEnded, AreOutrun, AreUnfinished, Attempt, Cells, CommitsInOrder, EndsAt, EndsIt, IsEvent, IsFirst, Limits, Outcome, Prior, Rows, Rules, Tries, World, begins, between, both_ways, count_at, count_committed, false_from_ne_true, is_at, is_committed, le-ltb, limits_of, odd_or_even, one_where, outrun, outrun_later, outrun_more, outrun_none, over, prior_of, runs, set_place, shut_out, turned_away}
 use Rattle.event_rules.proofs.Events.SoundOthers.{held_after, held_apart, one_after}
 use Rattle.event_rules.proofs.Commits.ActorLimits.{limits_stay}
-use Rattle.std.proofs.lemmas.Bool.Decides.{nat_tests}
+use Rattle.std.{proofs.lemmas.Bool.Decides.nat_tests, proofs.lemmas.List.Elements.All-from_recursion}
 use Rattle.tx_attempts.specs.declared.attempt.Outcome.TheVariants as outcomes
 
 -- ## Counts
@@ -27,8 +26,19 @@ open_committed : (xs : List Attempt) → AreUnfinished xs → count_committed xs
 open_committed [] u = refl
 open_committed (x ∷ xs) u = (let e = open_committed xs u.1 in let none : one_where (is_committed x.outcome) ≡ 0 = ap (λ (o : Outcome). one_where (is_committed o)) u.0 in omega arith)
 
+pub open_outrun : (clock : ℕ) (xs : List Attempt) → AreUnfinished xs → AreOutrun clock xs
+open_outrun clock xs u = All-from_recursion (λ (a : Attempt). a.outcome ≡ outcomes.Conflict → 2 * a.at < clock) xs (none_lost xs u)
+  where
+    none_lost : (ys : List Attempt) → AreUnfinished ys → AllByRecursion (λ (a : Attempt). a.outcome ≡ outcomes.Conflict → 2 * a.at < clock) ys
+    none_lost [] v = tt
+    none_lost (y ∷ ys) v = (λ lost. absurd (let both : outcomes.Unfinished ≡ outcomes.Conflict = sym v.0 ∙ lost in cc), none_lost ys v.1)
+
 pub counted_both : (clock : ℕ) (xs ys : List Attempt) → AreUnfinished ys → AreCounted clock xs → AreCounted clock (xs ++ ys)
 counted_both clock xs ys u c = record { all = omega (arith, count_committed_both xs ys, open_committed ys u, c.all); each = λ position. omega (arith, count_at_both position xs ys, open_at position ys u, c.each position) }
+
+-- none has committed at first
+pub counted_first : (clock : ℕ) (xs : List Attempt) → clock ≡ 0 → xs ≡ [] → AreCounted clock xs
+counted_first clock xs zero_clock none = subst (AreCounted clock) (sym none) (subst (λ (n : ℕ). AreCounted n []) (sym zero_clock) (record { all = refl; each = λ position. sym (ap one_where (le-ltb position 0 (omega arith))) }))
 
 -- the clock of one more commit
 below_more : (position n : ℕ) → one_where (nat_lt position (n + 1)) ≡ one_where (nat_lt position n) + one_where (n == position)
@@ -60,37 +70,46 @@ counted_one clock clock' xs ys a one is before now c = record {
       omega (arith, ap (count_at position) is ∙ count_at_both position xs (a ∷ []), c.each position, below_more position a.at));
 }
 
-module _ {P : Type 0} where
-  pub counted_after : {IsLater : Attempt → Attempt → Type 0} (clock clock' : ℕ) (p : Prior) (r : Rows) (a : Actor P) → Tries IsLater clock p clock' r a → AreCounted clock p.ended → AreCounted clock' r.ended
-  counted_after clock clock' p r a (between t) c = counted_same clock clock' p.ended r.ended t.ended t.half c
-  counted_after clock clock' p r a (begins t) c = counted_same clock clock' p.ended r.ended t.ended t.half c
-  counted_after clock clock' p r a (runs t) c = counted_same clock clock' p.ended r.ended t.ended t.half c
-  counted_after clock clock' p r a (turned_away t) c = counted_same clock clock' p.ended r.ended t.ended (ap (λ (n : ℕ). n / 2) t.same) c
-  counted_after clock clock' p r a (outrun t) c = counted_same clock clock' p.ended r.ended t.ended (ap (λ (n : ℕ). n / 2) t.same) c
-  counted_after clock clock' p r a (shut_out t) c = counted_same clock clock' p.ended r.ended t.ended (ap (λ (n : ℕ). n / 2) t.same) c
-  counted_after clock clock' p r a (over t) c = by_outcome t.row'.outcome refl t.at
-    where
-      by_outcome : (o : Outcome) → t.row'.outcome ≡ o → EndsAt p.max_commits clock clock' t.row'.at o → AreCounted clock' r.ended
-      by_outcome outcomes.Committed e at = counted_one clock clock' p.ended r.ended t.row' (ap is_committed e) t.ended at.0 at.1 c
-      by_outcome outcomes.Unfinished e at = absurd at
-      by_outcome o e at = counted_other clock clock' p.ended r.ended t.row' (ap is_committed e) t.ended at.0 c
-
--- ## Ends
+-- ## What an event adds
 
 ended_more : (xs : List Attempt) (a : Attempt) → (a.outcome ≡ outcomes.Unfinished → ⊥) → AreEnded xs → AreEnded (xs ++ a ∷ [])
 ended_more [] a e all = (e, tt)
 ended_more (x ∷ xs) a e all = (all.0, ended_more xs a e all.1)
 
-module _ {P : Type 0} where
-  -- what an event adds has ended
-  ended_after : {IsLater : Attempt → Attempt → Type 0} (clock clock' : ℕ) (p : Prior) (r : Rows) (a : Actor P) → Tries IsLater clock p clock' r a → AreEnded p.ended → AreEnded r.ended
-  ended_after clock clock' p r a (over t) all = subst AreEnded (sym t.ended) (ended_more p.ended t.row' (λ e. subst (EndsAt p.max_commits clock clock' t.row'.at) e t.at) all)
-  ended_after clock clock' p r a (between t) all = subst AreEnded (sym t.ended) all
-  ended_after clock clock' p r a (begins t) all = subst AreEnded (sym t.ended) all
-  ended_after clock clock' p r a (runs t) all = subst AreEnded (sym t.ended) all
-  ended_after clock clock' p r a (turned_away t) all = subst AreEnded (sym t.ended) all
-  ended_after clock clock' p r a (outrun t) all = subst AreEnded (sym t.ended) all
-  ended_after clock clock' p r a (shut_out t) all = subst AreEnded (sym t.ended) all
+module _ {P : Type 0} {IsLater : Attempt → Attempt → Type 0} (clock clock' : ℕ) (p : Prior) (r : Rows) (a : Actor P) where
+  -- one attempt ended by it, or none, and then no commit was done
+  pub some_ended : Tries IsLater clock p clock' r a → ((r.ended ≡ p.ended) × (clock' / 2 ≡ clock / 2)) ⊎ EndsIt IsLater clock p clock' r a
+  some_ended (between t) = inl (t.ended, t.half)
+  some_ended (begins t) = inl (t.ended, t.half)
+  some_ended (runs t) = inl (t.ended, t.half)
+  some_ended (over t) = inr t
+  some_ended (turned_away t) = inl (t.ended, ap (λ (n : ℕ). n / 2) t.same)
+  some_ended (outrun t) = inl (t.ended, ap (λ (n : ℕ). n / 2) t.same)
+  some_ended (shut_out t) = inl (t.ended, ap (λ (n : ℕ). n / 2) t.same)
+
+  pub counted_after : Tries IsLater clock p clock' r a → AreCounted clock p.ended → AreCounted clock' r.ended
+  counted_after tries c = elim (some_ended tries) [ inl still ↦ counted_same clock clock' p.ended r.ended still.0 still.1 c | inr t ↦ by_outcome t t.row'.outcome refl t.at ]
+    where
+      by_outcome : (t : EndsIt IsLater clock p clock' r a) (o : Outcome) → t.row'.outcome ≡ o → EndsAt p.max_commits clock clock' t.row'.at o → AreCounted clock' r.ended
+      by_outcome t outcomes.Committed e at = counted_one clock clock' p.ended r.ended t.row' (ap is_committed e) t.ended at.0 at.1 c
+      by_outcome t outcomes.Unfinished e at = absurd at
+      by_outcome t o e at = counted_other clock clock' p.ended r.ended t.row' (ap is_committed e) t.ended at.0 c
+
+  -- what it adds has ended
+  ended_after : Tries IsLater clock p clock' r a → AreEnded p.ended → AreEnded r.ended
+  ended_after tries all = elim (some_ended tries) [
+    | inl still ↦ subst AreEnded (sym still.0) all
+    | inr t ↦ subst AreEnded (sym t.ended) (ended_more p.ended t.row' (λ e. subst (EndsAt p.max_commits clock clock' t.row'.at) e t.at) all)
+  ]
+
+  -- the clock of a conflict that it adds had moved on
+  outrun_after : clock ≤ clock' → Tries IsLater clock p clock' r a → AreOutrun clock p.ended → AreOutrun clock' r.ended
+  outrun_after late tries all =
+      let before = outrun_later clock clock' late p.ended all in
+      elim (some_ended tries) [
+        | inl still ↦ subst (AreOutrun clock') (sym still.0) before
+        | inr t ↦ subst (AreOutrun clock') (sym t.ended) (outrun_more clock' p.ended t.row' before (λ lost. (subst (EndsAt p.max_commits clock clock' t.row'.at) lost t.at).1))
+      ]
 
 -- ## An event
 
@@ -133,10 +152,7 @@ module _ {P : Type 0} (rules : Rules P) (w : World P)
     (first : (place : ℕ) (a : Actor P) → slice_get w.actors place ≡ Some a → IsFirst w.cells.clock w.limits a) where
   pub commits_first : CommitsInOrder w
   commits_first = record {
-    counted = record {
-      all = ap count_committed none ∙ ap (λ (n : ℕ). n / 2) (sym zero_clock);
-      each = λ position. ap (count_at position) none ∙ (sym (ap one_where (le-ltb position 0 (omega arith))) ∙ ap (λ (n : ℕ). one_where (nat_lt position (n / 2))) (sym zero_clock));
-    };
+    counted = counted_first w.cells.clock w.attempts.ended zero_clock none;
     ended = subst AreEnded (sym none) tt;
     outrun = subst (AreOutrun w.cells.clock) (sym none) (outrun_none w.cells.clock);
     few = omega (arith, zero_clock);

@@ -1,32 +1,46 @@
--- An irrevocable attempt over a call that comes, and over a step.
-use Rattle.std.proofs.Common.{◌≡◌, ℕ, zero, suc, ◌/◌, true, false, List, Option, Some, slice_get, refl, sym, ap, subst, ◌∙◌, arith, unwrap_or, ◌+◌}
-use Rattle.event_rules.proofs.Common.{Actor, Answers, Asks, AsksFor, Attempt, Call, Cells, ComesTo, Core, Got, IsFound, IsHeld, IsLawful, IsLoaded, IsTied, Load, Next, Proceeds, Replied, Rows, Rules, StandsIn, State, Step, Store, active_of, after, alone_whole, answers, asked_from, bytes_at, cells_after, found, got_stored, handed_to, irrevocable_room, is_inside, leaves, memory_after, none_got, reply, reserved, rests, shut_revocable, slice_get-get_or, stage_from, stands_for}
+-- An irrevocable attempt over a call that comes, and over a step: what each comes to is that of the plain state to which the attempt's calls alone lead.
+use Rattle.std.proofs.Common.{◌≡◌, ℕ, zero, suc, ◌/◌, Bool, true, false, List, Option, Some, slice_get, refl, sym, ap, subst, ◌∙◌, arith, unwrap_or, ◌+◌}
+use Rattle.event_rules.proofs.Common.{Actor, Answers, Asks, AsksFor, Attempt, Call, Cells, ComesTo, Core, Got, IsFound, IsHeld, IsLawful, IsLoaded, IsTied, Load, Next, Proceeds, Replied, Rows, Rules, StandsIn, State, Step, Store, active_of, after, alone_whole, answers, asked_from, bytes_at, bytes_of, cells_after, found, got_stored, handed_to, in_transaction, irrevocable_room, is_inside, is_open, memory_after, none_got, plainly as reply, reserved, rests, shut_revocable, slice_get-get_or, stage_from}
 use Rattle.event_rules.proofs.Engines.SoundSteps.{IsCalling, IsStepping, asked_row, mid, mid_step, rests as between_calls, same, waits, went}
-use Rattle.event_rules.proofs.Engines.HeldCalls.{HasHeld, held_same}
+
+-- the attempt's calls alone on the memory of its position lead to an open block, and the call comes to what the plain machine makes of it then
+pub record HasHeld (deepest : ℕ) (base : List ℕ) (cells cells' : Cells) (r : Rows) (o : Option Attempt) (mid new : Core) (call : Call) (what : Next) : Type 0 where
+  pub still_open : mid.irrevocable ≡ true → (row : Attempt) → o ≡ Some row → is_open (alone_whole deepest (bytes_at deepest base r.ended (cells.clock / 2)) row) ≡ true
+  pub mode : mid.irrevocable ≡ true → (row : Attempt) → o ≡ Some row → (alone_whole deepest (bytes_at deepest base r.ended (cells.clock / 2)) row).irrevocable ≡ true
+  pub comes : mid.irrevocable ≡ true → (row : Attempt) → o ≡ Some row
+      → ComesTo (after deepest (alone_whole deepest (bytes_at deepest base r.ended (cells.clock / 2)) row) call) (reply deepest (alone_whole deepest (bytes_at deepest base r.ended (cells.clock / 2)) row) call) what new cells'.words
+  pub shut : in_transaction mid ≡ false → mid.irrevocable ≡ false
+  pub got : mid.irrevocable ≡ true → (word value : ℕ) → new.waits ≡ Some (Store (suc word) value) → Got new.got (slice_get cells'.words word)
+
+-- an attempt that stands elsewhere, with another room for its calls, is held as well
+pub held_same : {deepest : ℕ} {memory words : List ℕ} {row : Attempt} {e : Core} (at room : ℕ) → IsHeld deepest memory words row e → IsHeld deepest memory words (record row { at = at; calls = record row.calls { room = room } }) e
+held_same at room h = record { still_open = h.still_open; mode = h.mode; stands = h.stands; got = h.got }
+
+-- what a commit leaves is this plain state, once its stores are done
+pub record CommitsTo (cells : Cells) (new : Core) (wrote : Bool) (s : State) : Type 0 where
+  pub closes : is_open s ≡ false
+  pub wrote_is : wrote ≡ s.wrote
+  pub arena_is : new.arena ≡ s.arena
+  pub actions_is : new.actions ≡ s.actions
+  pub memory_is : wrote ≡ true → bytes_of cells.words ≡ s.memory
 
 -- ## A call comes
 
 module _ {P : Type 0} {rules : Rules P} {cells : Cells} {r0 r : Rows} {old a : Actor P} {call : Call} {what : Next} (m : IsCalling rules cells r0 r old a call what)
     (base : List ℕ) (held : old.engine.irrevocable ≡ true → (row : Attempt) → active_of old ≡ Some row → IsHeld old.engine.depth (bytes_at old.engine.depth base r0.ended (cells.clock / 2)) cells.words row old.engine) where
-  memory_same : bytes_at old.engine.depth base r.ended (cells.clock / 2) ≡ bytes_at old.engine.depth base r0.ended (cells.clock / 2)
-  memory_same = ap (λ (l : List Attempt). bytes_at old.engine.depth base l (cells.clock / 2)) m.asks.ended
-
   held_then : old.engine.irrevocable ≡ true → (row : Attempt) → active_of a ≡ Some row → IsHeld old.engine.depth (bytes_at old.engine.depth base r.ended (cells.clock / 2)) cells.words row old.engine
   held_then i row f =
       let was = asked_row m row f in
-      subst (λ (bytes : List ℕ). IsHeld old.engine.depth bytes cells.words row old.engine) (sym memory_same)
+      subst (λ (l : List Attempt). IsHeld old.engine.depth (bytes_at old.engine.depth base l (cells.clock / 2)) cells.words row old.engine) (sym m.asks.ended)
       (subst (λ (x : Attempt). IsHeld old.engine.depth (bytes_at old.engine.depth base r0.ended (cells.clock / 2)) cells.words x old.engine) (sym was.2) (held_same was.0.at (reserved was.0.calls (unwrap_or (irrevocable_room old.engine call) 0 + 1)).room (held i was.0 was.1)))
-
-  stands_then : old.engine.irrevocable ≡ true → (row : Attempt) → active_of a ≡ Some row → stands_for old.engine cells.words ≡ alone_whole old.engine.depth (bytes_at old.engine.depth base r.ended (cells.clock / 2)) row
-  stands_then i row f =
-      subst (λ (w : Option Step). StandsIn old.engine.depth w old.engine.doing old.engine cells.words (alone_whole old.engine.depth (bytes_at old.engine.depth base r.ended (cells.clock / 2)) row)) (between_calls m.sound m.ready).idle (held_then i row f).stands
 
   pub call_held : HasHeld old.engine.depth base cells cells r (active_of a) (mid m) a.engine call what
   call_held = record {
     still_open = λ i row f. (held_then i row f).still_open;
     mode = λ i row f. (held_then i row f).mode;
     comes = λ i row f.
-        subst (λ (s : State). ComesTo (after old.engine.depth s call) (reply old.engine.depth s call) what a.engine cells.words) (stands_then i row f)
+        subst (λ (s : State). ComesTo (after old.engine.depth s call) (reply old.engine.depth s call) what a.engine cells.words)
+        (subst (λ (w : Option Step). StandsIn old.engine.depth w old.engine.doing old.engine cells.words (alone_whole old.engine.depth (bytes_at old.engine.depth base r.ended (cells.clock / 2)) row)) (between_calls m.sound m.ready).idle (held_then i row f).stands)
         (m.asks.called.held i cells.words (sym m.sound.tied.words, m.sound.tied.fit));
     shut = λ o. shut_revocable old.engine m.sound.tied.settled o;
     got = λ i word value e. none_got (mid m) a.engine what m.asks.called.proceeds refl word value cells.words e;
@@ -61,24 +75,18 @@ module _ {P : Type 0} {rules : Rules P} {cells : Cells} {r : Rows} {old : Actor 
   was : (mid_step m).irrevocable ≡ true → old.engine.irrevocable ≡ true
   was i = sym (same m).irrevocable ∙ i
 
-  in_call : old.engine.irrevocable ≡ true → (row : Attempt) → active_of old ≡ Some row
-      → (leaves old.engine cells.words ≡ after deepest (alone_whole deepest (bytes_at deepest base r.ended (cells.clock / 2)) row) call) × (answers old.engine cells.words ≡ reply deepest (alone_whole deepest (bytes_at deepest base r.ended (cells.clock / 2)) row) call)
-  in_call i row f =
-      let w = waits m in
-      subst (λ (o : Option Call). StandsIn deepest (Some m.step) o old.engine cells.words (alone_whole deepest (bytes_at deepest base r.ended (cells.clock / 2)) row)) w.doing
-      (subst (λ (o : Option Step). StandsIn deepest o old.engine.doing old.engine cells.words (alone_whole deepest (bytes_at deepest base r.ended (cells.clock / 2)) row)) w.waits (held i row f).stands)
-
   comes_to : old.engine.irrevocable ≡ true → (row : Attempt) → active_of old ≡ Some row
       → ComesTo (after deepest (alone_whole deepest (bytes_at deepest base r.ended (cells.clock / 2)) row) call) (reply deepest (alone_whole deepest (bytes_at deepest base r.ended (cells.clock / 2)) row) call) what new cells'.words
   comes_to i row f =
       let w = waits m in
       let h = held i row f in
-      let pair = in_call i row f in
+      let state : State = alone_whole deepest (bytes_at deepest base r.ended (cells.clock / 2)) row in
+      let pair = subst (λ (o : Option Call). StandsIn deepest (Some m.step) o old.engine cells.words state) w.doing (subst (λ (o : Option Step). StandsIn deepest o old.engine.doing old.engine cells.words state) w.waits h.stands) in
       let there = subst (λ (o : Option Step). IsFound old.engine o (found cells m.step) cells.words) (sym w.waits)
       (is_found old.engine m.step (found cells m.step) cells.words (is_loaded cells old.engine m.step m.sound.tied w.lawful) (λ word value e. h.got word value (w.waits ∙ ap (λ (s : Step). Some s) e))) in
       let words : memory_after old.engine.waits cells.words ≡ cells'.words = ap (λ (o : Option Step). memory_after o cells.words) w.waits ∙ (words_then cells m.step ∙ ap (λ (c : Cells). c.words) (sym m.cells_are)) in
-      subst (λ (x : List ℕ). ComesTo (after deepest (alone_whole deepest (bytes_at deepest base r.ended (cells.clock / 2)) row) call) (reply deepest (alone_whole deepest (bytes_at deepest base r.ended (cells.clock / 2)) row) call) what new x) words
-      (subst (λ (x : Replied). ComesTo (after deepest (alone_whole deepest (bytes_at deepest base r.ended (cells.clock / 2)) row) call) x what new (memory_after old.engine.waits cells.words)) pair.1
+      subst (λ (x : List ℕ). ComesTo (after deepest state call) (reply deepest state call) what new x) words
+      (subst (λ (x : Replied). ComesTo (after deepest state call) x what new (memory_after old.engine.waits cells.words)) pair.1
       (subst (λ (x : State). ComesTo x (answers old.engine cells.words) what new (memory_after old.engine.waits cells.words)) pair.0
       (m.resumed.held i cells.words (sym m.sound.tied.words, m.sound.tied.fit) there)))
 

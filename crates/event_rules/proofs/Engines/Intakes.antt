@@ -1,8 +1,7 @@
 -- The moment that a step and a call of the player share: the engine has taken in a value or a call, and what it gave is recorded next.
 use Rattle.std.proofs.Common.{◌≡◌, ◌≢◌, ◌⊎◌, None, ◌+◌, ◌*◌, ◌/◌, Bool, true, false, [], refl, ap, subst, ◌∙◌, sym, length, Some, ◌<◌, ◌≤◌, inl, inr, arith, ℕ}
-use Rattle.event_rules.proofs.Common.{Actor, Answer, AnswerFits, Answers, Asks, Attempt, BeganIn, BeginsAt, Call, Cells, Core, End, Ended, Ends, HasFew, HasFirst, HasPoints, HasRow, IsActing, IsAnswered, IsAtOnce, IsDone, IsDue, IsInCall, IsKept, IsNested, IsSettledBy, IsSound, IsTied, IsWaiting, IsWithin, LeavesRestarts, Next, Proceeds, Ready, Records, RestsAs, Rows, Rules, Status, StatusIs, Step, Tells, Waits, active_of, asked, cases_Bool, count_of, ending_of, frees, in_transaction, is_ready, pending_of, restarts_left, rests, row_same, stage_of, wanted}
-use Rattle.event_rules.{proofs.Engines.TiedEngines.answer_fits}
-use Rattle.event_rules.proofs.Engines.RestartedEngines.{leaves_left}
+use Rattle.event_rules.proofs.Common.{Actor, Answer, AnswerFits, Answers, Asks, Attempt, BeganIn, BeginsAt, Call, Cells, Core, End, Ended, Ends, Finished, GaveUp, HasFew, HasFirst, HasPoints, HasRow, IsActing, IsAnswered, IsAtOnce, IsDone, IsDue, IsInCall, IsKept, IsNested, IsSettledBy, IsSound, IsTied, IsWaiting, IsWithin, LeavesRestarts, Next, NoMemory, Proceeds, Ready, Records, RestsAs, Rows, Rules, Status, StatusIs, Step, Tells, Waits, active_of, asked, cases_Bool, count_of, ending_of, frees, in_transaction, is_ready, leaves_left, pending_of, restarts_left, rests, row_same, stage_of, status_after, taken_of, wanted}
+use Rattle.run_rules.proofs.EngineAnswers.{answer_fits}
 
 pub ready_of : (s : Status) → is_ready s ≡ true → s ≡ Ready
 ready_of Ready e = refl
@@ -86,6 +85,9 @@ module _ {P : Type 0} {rules : Rules P} {was : Bool} {cells cells' : Cells} {r :
   pub half_same : {r1 : Rows} {last : Actor P} {answer : Answer} → HasAnswered rules was cells cells' r r1 mid a last call answer → frees answer ≡ false → cells'.clock / 2 ≡ cells.clock / 2
   half_same m none = m.taken.moves.keeps (unfreed m none)
 
+  pub read_late : {r1 : Rows} {last : Actor P} {answer : Answer} → HasAnswered rules was cells cells' r r1 mid a last call answer → frees answer ≡ false → a.engine.snapshot / 2 ≤ cells.clock / 2
+  read_late m none = omega (arith, half_same m none, m.taken.tied.settled.reached, m.taken.tied.late)
+
   pub due : {what : Next} → HasTaken rules was cells cells' r mid a call what → IsDue rules was (restarts_left mid) a call what
   due {what = Asks step} m = m.ready
   due {what = Answers answer} m = answered m
@@ -128,3 +130,18 @@ module _ {P : Type 0} {rules : Rules P} {was : Bool} {cells cells' : Cells} {r :
 
   pub now : {what : Next} {r1 : Rows} {last : Actor P} → HasTaken rules was cells cells' r mid a call what → IsDone rules was (restarts_left mid) r r1 a last call what → Tells rules r r1 a last call what → IsNow rules cells' r1 a last
   now m done tells = recorded (λ x y. IsNow rules cells' x a y) m done tells (λ step t. waits_now t) (λ answer is t. answered_now t)
+
+-- ## An answer ends no actor but one that gives up
+
+module _ {P : Type 0} (rules : Rules P) (r r1 : Rows) (a last : Actor P) (call : Call) where
+  not_ended : (end : End) → (end ≡ GaveUp → ⊥) → (ans : Answer) → Records rules r r1 a last call ans → ending_of last.status ≡ Some end → ⊥
+  not_ended end other ans t e = elim (taken_of t).end [
+    | inl going ↦ (let none : None ≡ Some end = sym (ap ending_of (t.takes.status ∙ ap status_after going)) ∙ e in cc)
+    | inr gave ↦ other (let z : Some end ≡ Some GaveUp = sym e ∙ ap ending_of (t.takes.status ∙ ap status_after gave) in cc)
+  ]
+
+  pub not_finished : (ans : Answer) → Records rules r r1 a last call ans → ending_of last.status ≡ Some Finished → ⊥
+  not_finished = not_ended Finished (λ e. absurd (cc))
+
+  pub not_starved : (ans : Answer) → Records rules r r1 a last call ans → ending_of last.status ≡ Some NoMemory → ⊥
+  not_starved = not_ended NoMemory (λ e. absurd (cc))

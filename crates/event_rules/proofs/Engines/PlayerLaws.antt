@@ -1,169 +1,144 @@
--- The player's laws, over one answer: its depth, where it goes back to, and how much is left to do; and what comes of the answer once it is recorded.
-use Rattle.std.proofs.Common.{◌≡◌, ℕ, suc, ◌+◌, ◌/◌, ◌<◌, ◌≤◌, Bool, true, false, Some, refl, ap, subst, ◌∙◌, arith, nat_lt, [], Option, None, if◌then◌else◌, is_some, sym, ltb-false, List, length}
-use Rattle.event_rules.proofs.Common.{Actor, Answer, Attempt, Busy, Call, Committed, Conflict, Current, Done, End, Ended, Falls, Full, GaveUp, HasPoints, HasRow, IsAnswered, IsDeep, IsNested, IsSettledBy, LessLeft, Obeys, Ready, Records, Replied, Reply, Restarted, Rows, Rules, Savepoint, Stage, Status, Taken, TakesTo, begun_in, cut_back, depth_after, in_transaction, is_cut, left_most, open_deep, open_in, outside, over_as, pending_of, points_in, ran_on, restarts_left, savepoints_after, sent_back, stage_begun, stage_of, stage_open, stage_out, stand_at, status_after, taken_at, tally_at, told_again, told_nth, told_player, told_stage, tried_as, tried_at, with_call, within_at}
-use Rattle.run_rules.{proofs.Players.Played, proofs.Players.nested_again, proofs.Players.nested_outside, proofs.Players.plays, proofs.Ranks.falls_back, proofs.Ranks.falls_close, proofs.Ranks.falls_reply, proofs.Ranks.falls_try, proofs.Players.is_opened}
-use Rattle.tx_runs.{specs.Tallies.begins}
-pub use Rattle.run_rules.proofs.EngineDepths.{deep_of, was_open}
-use Rattle.tx_attempts.specs.declared.attempt.Outcome.TheVariants as outcomes
+-- What comes of an answer once it is recorded: the actor is between calls again, as its player's laws say, or has ended.
+use Rattle.std.proofs.Common.{◌≡◌, ℕ, suc, ◌+◌, ◌/◌, ◌<◌, Bool, true, false, List, length, Option, None, Some, is_some, inl, inr, refl, sym, ap, subst, ◌∙◌, arith}
+use Rattle.event_rules.proofs.Common.{Actor, Answer, AnswerFits, Attempt, Call, Core, End, Falls, HasPoints, HasRow, IsAnswered, IsDeep, IsRestart, IsSettledBy, Obeys, Ready, Records, Restarted, RestsAs, Rows, Rules, Savepoint, Stage, Taken, TakesTo, Unfinished, active_of, begun_in, deep_of, depth_after, in_transaction, is_begin, is_cut, none_begun, open_by, open_deep, open_in, outside, pending_of, points_in, restarts_left, row_is_of, row_unfinished, stage_of, stage_open, stand_of, status_after, tally_of, told_again, told_nth, told_player, told_stage, took_in, within}
+use Rattle.tx_runs.specs.Tallies.{begins}
+use Rattle.run_rules.proofs.PlayerLaws.{GoesOn, IsOn, StageFits, took_on}
+use Rattle.run_rules.proofs.Players.{is_opened}
+use Rattle.run_rules.proofs.RestartsLeft.{left_most}
 
--- ## The answer is recorded: the actor is between calls again, or has ended
+-- ## Its stage
 
-module _ {P : Type 0} (rules : Rules P) (laws : Obeys rules) (a : Actor P) (call : Call) (before : ℕ) where
-  -- the actor with another player, other counts and another attempt
-  abbrev Gone : P → ℕ → Bool → Current → Status → Actor P
-  Gone player nth again current status = record a { run = record a.run { player = player; nth = nth; again = again; current = current }; status = status }
+fits_row : {P : Type 0} (b : Bool) (a : Actor P) → HasRow b a → StageFits b (stage_of a.run.current)
+fits_row true a row = subst (StageFits true) (sym (stage_open _ row.1)) tt
+fits_row false a none = by_stage (stage_of a.run.current) none
+  where
+    by_stage : (s : Stage) → open_in s ≡ None → StageFits false s
+    by_stage outside e = tt
+    by_stage (begins row) e = tt
+    by_stage (within row points) e = absurd (cc)
 
-  -- so many restarts are left
-  abbrev Left : ℕ
-  Left = restarts_left a.engine
+fits_open : (b : Bool) (row : Attempt) (points : List Savepoint) → StageFits b (within row points) → b ≡ true
+fits_open true row points f = refl
+fits_open false row points f = absurd f
 
-  fell : {was now : Bool} {nth : ℕ} {player : P} (again : Bool) (current : Current) (status : Status) → LessLeft rules a.run.retries a.engine.restarts was now a.run.nth nth before Left a.run.player player → Falls rules was now before Left a (Gone player nth again current status)
-  fell again current status f = record { whole_falls = f.whole_falls; rank_falls = f.rank_falls }
+fits_begun : (b : Bool) (row : Attempt) → StageFits b (begins row) → b ≡ false
+fits_begun true row f = absurd f
+fits_begun false row f = refl
 
-  -- it is ready for its next call, with its block open or not
-  ready_again : (was now : Bool) → in_transaction a.engine ≡ now → {answer : Answer} → IsAnswered rules was before a call answer → (player : P) (nth : ℕ) (again : Bool) (current : Current)
-      → HasRow now (Gone player nth again current Ready) → begun_in (stage_of current) ≡ None → (0 < nth) × (nth ≤ a.run.retries + 1) → IsNested rules now player → rules.depth player ≡ length a.engine.blocks → HasPoints (rules.depth player) (stage_of current)
-      → Falls rules was now before Left a (Gone player nth again current Ready) → IsSettledBy rules was before a (Gone player nth again current Ready)
-  ready_again was now is d player nth again current row nothing tries nested deep points falls =
-      let new : Actor P = Gone player nth again current Ready in
-      assumption (tries, points, subst (λ (b : Bool). HasRow b new) (sym is) row, subst (λ (b : Bool). IsNested rules b player) (sym is) nested, subst (λ (b : Bool). Falls rules was b before Left a new) (sym is) falls, d)
+module _ {P : Type 0} (rules : Rules P) (laws : Obeys rules) (a : Actor P) (call : Call) (before : ℕ) (last : Actor P) (engine : last.engine ≡ a.engine) (thread : last.run.thread ≡ a.run.thread) (retries : last.run.retries ≡ a.run.retries) {r r' : Rows} (was : Bool) (answer : Answer)
+    (d : IsAnswered rules was before a call answer) (t : Records rules r r' a last call answer) where
+  -- what the answer makes of its player
+  abbrev Took : Taken P
+  Took = took_in rules a.run.retries (tally_of a.run) call answer (stand_of a.engine)
 
-  -- the player after a reply
-  answered_deep : (reply : Replied) → rules.next_call a.run.player ≡ Some call → depth_after (rules.depth a.run.player) call reply ≡ length a.engine.blocks → rules.depth (rules.answered a.run.player reply) ≡ length a.engine.blocks
-  answered_deep reply asks fits = laws.nests a.run.player call reply asks ∙ fits
+  takes : TakesTo (took_in rules a.run.retries (tally_of a.run) call answer (stand_of a.engine)) r r' a last
+  takes = subst (λ (e : Core). TakesTo (took_in rules a.run.retries (tally_of a.run) call answer (stand_of e)) r r' a last) engine t.takes
 
-  played : (was : Bool) {answer : Answer} → IsAnswered rules was before a call answer → (reply : Replied) → depth_after (rules.depth a.run.player) call reply ≡ length a.engine.blocks
-      → Played rules laws was (in_transaction a.engine) a.run.player (rules.answered a.run.player reply)
-  played was d reply fits =
-      plays rules laws a.run.player call reply d.in_call.asks was (in_transaction a.engine) d.nested (subst (IsDeep (in_transaction a.engine)) (sym fits) (deep_of a.engine.blocks))
+  no_begin : stage_of a.run.current ≡ outside → is_begin call ≡ false
+  no_begin out = by_was was refl
+    where
+      by_was : (b : Bool) → was ≡ b → is_begin call ≡ false
+      by_was true w = absurd (subst (StageFits true) out (subst (λ (b : Bool). StageFits b (stage_of a.run.current)) w (fits_row was a d.kept.row)))
+      by_was false w = sym (d.in_call.begins w) ∙ ap (λ (s : Stage). is_some (begun_in s)) out
+
+  went : GoesOn rules laws a.run.retries a.engine.restarts was (in_transaction a.engine) (length a.engine.blocks) before (restarts_left a.engine) (tally_of a.run) (took_in rules a.run.retries (tally_of a.run) call answer (stand_of a.engine))
+  went = took_on rules laws a.run.retries a.engine.restarts a.run.player a.run.nth a.run.again call (a.engine.snapshot / 2) a.engine.actions.ran a.engine.arena was (in_transaction a.engine) (stage_of a.run.current) answer (record {
+    asks = d.in_call.asks;
+    nested = d.nested;
+    tried = d.kept.tried;
+    tries = d.kept.tries;
+    stage = fits_row was a d.kept.row;
+    begins = no_begin;
+    fits = d.fits;
+    deep_now = deep_of a.engine.blocks;
+    leaves = d.left;
+    most = left_most a.engine;
+  })
+
+  -- its open attempt is its own
+  row_of : (row : Attempt) → active_of last ≡ Some row → (row.outcome ≡ Unfinished) × (row.thread ≡ a.run.thread)
+  row_of row e = elim (open_by t row e).2 [
+    | inl x ↦ elim x.2 [
+      | inl y ↦ (let old = ap open_in y.2 in (ap (λ (z : Attempt). z.outcome) y.3 ∙ row_unfinished was a y.0 d.kept.row old, ap (λ (z : Attempt). z.thread) y.3 ∙ row_is_of was a y.0 d.kept.row old))
+      | inr y ↦ (let p = d.in_call.opens y.0 (ap begun_in y.1) in (ap (λ (z : Attempt). z.outcome) y.2 ∙ p.outcome, ap (λ (z : Attempt). z.thread) y.2 ∙ p.thread))
+    ]
+    | inr y ↦
+        (let old = ap open_in y.2 in
+        let cut = is_cut (points_in (stage_of last.run.current)) last.engine.arena last.engine.actions.ran y.1 in
+        (ap (λ (z : Attempt). z.outcome) y.3 ∙ (cut.outcome ∙ row_unfinished was a y.1 d.kept.row old), ap (λ (z : Attempt). z.thread) y.3 ∙ (cut.same.thread ∙ row_is_of was a y.1 d.kept.row old)))
+  ]
+
+  -- the actor then
+  abbrev Gone : Actor P
+  Gone = record a { run = record a.run { player = Took.tally.player; nth = Took.tally.nth; again = Took.tally.again; current = last.run.current }; status = status_after Took.end }
+
+  has_row : (b : Bool) (s : Stage) → stage_of last.run.current ≡ s → StageFits b s → HasRow b Gone
+  has_row true (within row points) is f = (let own = row_of row (ap open_in is) in (row, ap open_in is, own.0, own.1))
+  has_row false outside is f = ap open_in is
+  has_row false (begins row) is f = ap open_in is
+  has_row b s is f = absurd f
 
   -- it knows where each inner block began
-  some_deep : (reply : Replied) → in_transaction a.engine ≡ true → depth_after (rules.depth a.run.player) call reply ≡ length a.engine.blocks → 0 < depth_after (rules.depth a.run.player) call reply
-  some_deep reply o fits = subst (λ (n : ℕ). 0 < n) (sym fits) (subst (λ (b : Bool). IsDeep b (length a.engine.blocks)) o (deep_of a.engine.blocks))
+  back_deep : (x : Answer) → AnswerFits was (rules.depth a.run.player) (in_transaction a.engine) (length a.engine.blocks) call x → IsRestart x → rules.depth a.run.player ≡ length a.engine.blocks
+  back_deep (Restarted clock word) f is = f.2
+  back_deep x f is = absurd is
 
-  points_now : (reply : Replied) (row : Attempt) (points : List Savepoint) → rules.depth a.run.player ≡ length points + 1 → 0 < depth_after (rules.depth a.run.player) call reply → rules.next_call a.run.player ≡ Some call
-      → rules.depth (rules.answered a.run.player reply) ≡ length (savepoints_after points row (record { call = call; reply = reply })) + 1
-  points_now reply row points deep some asks =
-      let suc_deep : rules.depth a.run.player ≡ suc (length points) = omega arith in
-      let now = ap (λ (n : ℕ). depth_after n call reply) suc_deep in
-      let opened = open_deep (record { kept = suc (length row.calls.list); ran = length row.ran }) points call reply (subst (λ (n : ℕ). 0 < depth_after n call reply) suc_deep some) in
-      omega (arith, laws.nests a.run.player call reply asks, now, opened)
+  points_of : (s : Stage) → stage_of last.run.current ≡ s → HasPoints (length a.engine.blocks) s
+  points_of outside is = tt
+  points_of (begins row) is = tt
+  points_of (within row points) is =
+      let now = fits_open _ row points (subst (StageFits (in_transaction a.engine)) (sym (told_stage takes) ∙ is) went.stage) in
+      let some : 0 < length a.engine.blocks = subst (λ (b : Bool). IsDeep b (length a.engine.blocks)) now (deep_of a.engine.blocks) in
+      let here = ap (λ (s : Stage). length (points_in s)) is in
+      elim (open_by t row (ap open_in is)).2 [
+        | inl x ↦
+            (let fits : depth_after (rules.depth a.run.player) call x.0 ≡ length a.engine.blocks = (subst (AnswerFits was (rules.depth a.run.player) (in_transaction a.engine) (length a.engine.blocks) call) x.1 d.fits).0 in
+            elim x.2 [
+              | inl y ↦
+                  (let deep : rules.depth a.run.player ≡ length y.1 + 1 = subst (HasPoints (rules.depth a.run.player)) y.2 d.points in
+                  let suc_deep : rules.depth a.run.player ≡ suc (length y.1) = omega arith in
+                  let fits_so = ap (λ (n : ℕ). depth_after n call x.0) suc_deep in
+                  let opened = open_deep (record { kept = suc (length y.0.calls.list); ran = length y.0.ran }) y.1 call x.0 (omega arith) in
+                  let long = ap (length {A = Savepoint}) y.4 in
+                  omega arith)
+              | inr y ↦
+                  (let shut = fits_begun was y.0 (subst (StageFits was) y.1 (fits_row was a d.kept.row)) in
+                  let none : rules.depth a.run.player ≡ 0 = subst (λ (b : Bool). IsDeep b (rules.depth a.run.player)) shut d.nested.deep in
+                  let opened = (is_opened (rules.depth a.run.player) call x.0 (omega arith)).now in
+                  let long = ap (length {A = Savepoint}) y.3 in
+                  omega arith)
+            ])
+        | inr y ↦
+            (let deep : rules.depth a.run.player ≡ length (points_in (stage_of last.run.current)) + 1 = subst (HasPoints (rules.depth a.run.player)) y.2 d.points in
+            let same = back_deep answer d.fits y.0 in
+            omega arith)
+      ]
 
-  points_first : (reply : Replied) → rules.depth a.run.player ≡ 0 → 0 < depth_after (rules.depth a.run.player) call reply → rules.next_call a.run.player ≡ Some call → rules.depth (rules.answered a.run.player reply) ≡ 1
-  points_first reply none some asks = laws.nests a.run.player call reply asks ∙ ((is_opened (rules.depth a.run.player) call reply (omega arith)).now ∙ ap suc none)
+  -- no attempt is to be opened
+  nothing : pending_of last ≡ None
+  nothing = none_begun t (by_answer answer d)
+    where
+      by_answer : (x : Answer) → IsAnswered rules was before a call x → IsRestart x → pending_of a ≡ None
+      by_answer (Restarted clock word) d is = d.in_call.inside d.fits.0
+      by_answer x d is = absurd is
 
-  -- a reply
-  after_reply : (was now : Bool) → in_transaction a.engine ≡ now → (was ≡ true → now ≡ false → ⊥) → (reply : Replied) → IsAnswered rules was before a call (Reply reply) → (again : Bool) (current : Current)
-      → HasRow now (Gone (rules.answered a.run.player reply) a.run.nth again current Ready) → begun_in (stage_of current) ≡ None → HasPoints (rules.depth (rules.answered a.run.player reply)) (stage_of current)
-      → IsSettledBy rules was before a (Gone (rules.answered a.run.player reply) a.run.nth again current Ready)
-  after_reply was now is stays reply d again current row nothing points =
-      let x = subst (λ (b : Bool). Played rules laws was b a.run.player (rules.answered a.run.player reply)) is (played was d reply d.fits.0) in
-      ready_again was now is d (rules.answered a.run.player reply) a.run.nth again current row nothing (d.kept.tried, d.kept.tries) x.nested (answered_deep reply d.in_call.asks d.fits.0) points
-      (fell again current Ready (falls_reply rules a.run.retries a.engine.restarts laws a.run.nth before Left (d.left (λ w n. stays w (sym is ∙ n))) x))
+  rests_as : (end : Option End) → (end ≡ None → IsOn rules laws a.run.retries a.engine.restarts was (in_transaction a.engine) (length a.engine.blocks) before (restarts_left a.engine) (tally_of a.run) Took.tally) → RestsAs rules (status_after end) Gone
+  rests_as None on = (let o = on refl in record { nested = o.nested; depth = o.depth; points = subst (λ (n : ℕ). HasPoints n (stage_of last.run.current)) (sym o.depth) (points_of _ refl); idle = d.idle; free = d.free; nothing = nothing })
+  rests_as (Some end) on = d.idle
 
-  -- the block is done
-  after_close : {answer : Answer} → IsAnswered rules true before a call answer → (reply : Replied) → in_transaction a.engine ≡ false → depth_after (rules.depth a.run.player) call reply ≡ length a.engine.blocks
-      → (current : Current) → stage_of current ≡ outside → IsSettledBy rules true before a (Gone (rules.answered a.run.player reply) 1 false current Ready)
-  after_close d reply closed fits current shut =
-      let player : P = rules.answered a.run.player reply in
-      let x : Played rules laws true false a.run.player player = subst (λ (b : Bool). Played rules laws true b a.run.player player) closed (played true d reply fits) in
-      let tried = d.kept.tries in
-      ready_again true false closed d player 1 false current (ap open_in shut) (ap begun_in shut) (omega arith, omega arith) x.nested (answered_deep reply d.in_call.asks fits) (subst (HasPoints (rules.depth player)) (sym shut) tt)
-      (fell false current Ready (falls_close rules a.run.retries a.engine.restarts laws a.run.nth before Left (left_most a.engine) d.nested x))
+  falls_as : (end : Option End) → (end ≡ None → IsOn rules laws a.run.retries a.engine.restarts was (in_transaction a.engine) (length a.engine.blocks) before (restarts_left a.engine) (tally_of a.run) Took.tally)
+      → status_after end ≡ Ready → Falls rules was (in_transaction a.engine) before (restarts_left a.engine) a Gone
+  falls_as None on ready = (let f = (on refl).falls in record { whole_falls = f.whole_falls; rank_falls = f.rank_falls })
+  falls_as (Some end) on ready = absurd (cc)
 
-  -- no more tries: the actor has ended
-  after_end : (was : Bool) {answer : Answer} → IsAnswered rules was before a call answer → (end : End) (player : P) (current : Current) → in_transaction a.engine ≡ false → stage_of current ≡ outside
-      → IsSettledBy rules was before a (Gone player a.run.nth a.run.again current (Ended end))
-  after_end was d end player current closed shut =
-      let new : Actor P = Gone player a.run.nth a.run.again current (Ended end) in
-      let falls : Ended end ≡ Ready → Falls rules was (in_transaction a.engine) before Left a new = λ over. absurd (cc) in
-      assumption (subst (λ (b : Bool). HasRow b new) (sym closed) (ap open_in shut), falls, d)
-
-  -- a try came to nothing, and one more comes: the player is where it began the block
-  after_try : (was : Bool) {answer : Answer} → IsAnswered rules was before a call answer → nat_lt a.run.retries a.run.nth ≡ false → (player : P) → rules.depth player ≡ 0 → player ≡ (if was then rules.restarted a.run.player else a.run.player)
-      → in_transaction a.engine ≡ false → (current : Current) → stage_of current ≡ outside → IsSettledBy rules was before a (Gone player (a.run.nth + 1) a.run.again current Ready)
-  after_try was d more player outside_of same closed current shut =
-      let low : a.run.nth ≤ a.run.retries = ltb-false a.run.retries a.run.nth more in
-      let none : length a.engine.blocks ≡ 0 = subst (λ (b : Bool). IsDeep b (length a.engine.blocks)) closed (deep_of a.engine.blocks) in
-      ready_again was false closed d player (a.run.nth + 1) a.run.again current (ap open_in shut) (ap begun_in shut) (omega arith, omega arith) (nested_outside rules player outside_of) (outside_of ∙ sym none) (subst (HasPoints (rules.depth player)) (sym shut) tt)
-      (fell a.run.again current Ready (subst (λ (q : P). LessLeft rules a.run.retries a.engine.restarts was false a.run.nth (a.run.nth + 1) before Left a.run.player q) (sym same) (falls_try rules a.run.retries a.engine.restarts was a.run.nth before Left a.run.player low (left_most a.engine))))
-
-  -- the innermost block goes back to its begin
-  after_back : {clock word : ℕ} → IsAnswered rules true before a call (Restarted clock word) → (current : Current) → HasRow true (Gone (rules.at_block a.run.player (rules.depth a.run.player)) a.run.nth a.run.again current Ready) → begun_in (stage_of current) ≡ None
-      → HasPoints (rules.depth a.run.player) (stage_of current)
-      → IsSettledBy rules true before a (Gone (rules.at_block a.run.player (rules.depth a.run.player)) a.run.nth a.run.again current Ready)
-  after_back d current row nothing points =
-      let p : P = a.run.player in
-      let deep : rules.depth (rules.at_block p (rules.depth p)) ≡ rules.depth p = (d.nested.blocks (rules.depth p) d.nested.deep (omega arith)).depth in
-      ready_again true true d.fits.1 d (rules.at_block p (rules.depth p)) a.run.nth a.run.again current row nothing (d.kept.tried, d.kept.tries) (nested_again rules p d.nested) (deep ∙ d.fits.2) (subst (λ (n : ℕ). HasPoints n (stage_of current)) (sym deep) points)
-      (fell a.run.again current Ready (falls_back rules a.run.retries a.engine.restarts a.run.nth before Left p d.nested d.left))
-
-  module _ (last : Actor P) (engine : last.engine ≡ a.engine) (thread : last.run.thread ≡ a.run.thread) (retries : last.run.retries ≡ a.run.retries) where
-    open_now : {b : Bool} → in_transaction a.engine ≡ b → in_transaction last.engine ≡ b
-    open_now e = ap in_transaction engine ∙ e
-
-    -- the actor, from what the answer comes to
-    settled_as : {r r' : Rows} {taken : Taken P} (was : Bool) → TakesTo taken r r' a last
-        → (stage_of last.run.current ≡ taken.tally.stage → IsSettledBy rules was before a (Gone taken.tally.player taken.tally.nth taken.tally.again last.run.current (status_after taken.end))) → IsSettledBy rules was before a last
-    settled_as {taken = taken} was x settled =
-        let is : last ≡ Gone taken.tally.player taken.tally.nth taken.tally.again last.run.current (status_after taken.end) =
-        λ i. record { run = record { thread = thread i; retries = retries i; player = told_player x i; nth = told_nth x i; again = told_again x i; current = last.run.current }; engine = engine i; status = x.status i } in
-        subst (IsSettledBy rules was before a) (sym is) (settled (told_stage x))
-
-    -- a try came to nothing
-    settled_try : {r r' : Rows} (was : Bool) {answer : Answer} → IsAnswered rules was before a call answer → (player : P) (over : List Attempt) → rules.depth player ≡ 0 → player ≡ (if was then rules.restarted a.run.player else a.run.player) → in_transaction a.engine ≡ false
-        → (s : Stage) (b : Bool) → nat_lt a.run.retries a.run.nth ≡ b → TakesTo (tried_as b (record { player = player; nth = a.run.nth; again = a.run.again; stage = s }) over) r r' a last → IsSettledBy rules was before a last
-    settled_try was d player over shut same closed s true e x = settled_as was x (after_end was d GaveUp player last.run.current closed)
-    settled_try was d player over shut same closed s false e x = settled_as was x (after_try was d e player shut same closed last.run.current)
-
-    replied_inside : {r r' : Rows} (reply : Replied) → IsAnswered rules true before a call (Reply reply) → Records rules r r' a last call (Reply reply) → (b : Bool) → in_transaction a.engine ≡ b → IsSettledBy rules true before a last
-    replied_inside reply d t true o =
-        let row = d.kept.row in
-        let points = points_in (stage_of a.run.current) in
-        let deep : rules.depth a.run.player ≡ length points + 1 = subst (HasPoints (rules.depth a.run.player)) (stage_open _ row.1) d.points in
-        settled_as true (taken_at t (stage_open _ row.1) (open_now o)) (λ e. after_reply true true o (λ w n. absurd (cc)) reply d a.run.again last.run.current (record (with_call call reply row.0) { ran = ran_on row.0.ran row.0.restarts last.engine.actions.ran }, ap open_in e, row.2, row.3) (ap begun_in e)
-        (subst (HasPoints (rules.depth (rules.answered a.run.player reply))) (sym e) (points_now reply row.0 points deep (some_deep reply o d.fits.0) d.in_call.asks)))
-    replied_inside reply d t false o = settled_as true (taken_at t (stage_open _ d.kept.row.1) (open_now o)) (after_close d reply o d.fits.0 last.run.current)
-
-    replied_outside : {r r' : Rows} (reply : Replied) → IsAnswered rules false before a call (Reply reply) → Records rules r r' a last call (Reply reply) → (p : Option Attempt) → pending_of a ≡ p → (b : Bool) → in_transaction a.engine ≡ b → IsSettledBy rules false before a last
-    replied_outside reply d t (Some row) p true o =
-        let q = d.in_call.opens row p in
-        settled_as false (taken_at t (stage_begun _ p) (open_now o)) (λ e. after_reply false true o (λ w. absurd (cc)) reply d true last.run.current (record row { at = last.engine.snapshot / 2 }, ap open_in e, q.outcome, q.thread) (ap begun_in e)
-        (subst (HasPoints (rules.depth (rules.answered a.run.player reply))) (sym e) (points_first reply d.nested.deep (some_deep reply o d.fits.0) d.in_call.asks)))
-    replied_outside reply d t (Some row) p false o = settled_as false (taken_at t (stage_begun _ p) (open_now o)) (λ e. after_reply false false o (λ w. absurd (cc)) reply d a.run.again last.run.current (ap open_in e) (ap begun_in e) (subst (HasPoints (rules.depth (rules.answered a.run.player reply))) (sym e) tt))
-    replied_outside reply d t None p true o =
-        absurd (let f : false ≡ true = was_open false (in_transaction a.engine) (rules.depth a.run.player) (length a.engine.blocks) call reply d.nested.deep (deep_of a.engine.blocks) (λ x. sym (d.in_call.begins x) ∙ ap (is_some {T = Attempt}) p) d.fits.0 o in cc)
-    replied_outside reply d t None p false o = settled_as false (taken_at t (stage_out _ d.kept.row p) (open_now o)) (λ e. after_reply false false o (λ w. absurd (cc)) reply d a.run.again last.run.current (ap open_in e) (ap begun_in e) (subst (HasPoints (rules.depth (rules.answered a.run.player reply))) (sym e) tt))
-
-    -- so is the answer
-    pub settles : {r r' : Rows} (was : Bool) (answer : Answer) → IsAnswered rules was before a call answer → Records rules r r' a last call answer → IsSettledBy rules was before a last
-    settles true (Reply reply) d t = replied_inside reply d t (in_transaction a.engine) refl
-    settles false (Reply reply) d t = replied_outside reply d t (pending_of a) refl (in_transaction a.engine) refl
-    settles true (Committed at wrote) d t =
-        let none : length a.engine.blocks ≡ 0 = subst (λ (b : Bool). IsDeep b (length a.engine.blocks)) d.fits.1 (deep_of a.engine.blocks) in
-        settled_as true (taken_at t (stage_open _ d.kept.row.1) (open_now d.fits.1)) (after_close d Done d.fits.1 ((λ i. depth_after (d.fits.3 i) (d.fits.2 i) Done) ∙ sym none) last.run.current)
-    settles false (Committed at wrote) d t = absurd (let f : false ≡ true = d.fits.0 in cc)
-    settles true (Conflict clock word) d t =
-        settled_try true d (rules.restarted a.run.player) _ (d.nested.begun refl) refl d.fits.1 (within_at a d.kept.row.0) (nat_lt a.run.retries a.run.nth) refl
-        (tried_at (record { player = rules.restarted a.run.player; nth = a.run.nth; again = a.run.again; stage = within_at a d.kept.row.0 }) _ a.run.retries (taken_at t (stage_open _ d.kept.row.1) (open_now d.fits.1)) refl)
-    settles {r} {r'} false (Conflict clock word) d t = by_pending (pending_of a) refl
-      where
-        by_stage : (s : Stage) → stage_of a.run.current ≡ s → sent_back rules s a.run.player ≡ a.run.player → IsSettledBy rules false before a last
-        by_stage s e same =
-            settled_try false d (sent_back rules s a.run.player) _ (ap rules.depth same ∙ d.nested.deep) same d.fits.1 s (nat_lt a.run.retries a.run.nth) refl
-            (tried_at (record { player = sent_back rules s a.run.player; nth = a.run.nth; again = a.run.again; stage = s }) (over_as outcomes.Conflict (stand_at false last.engine) s) a.run.retries (taken_at t e (open_now d.fits.1)) refl)
-
-        by_pending : (p : Option Attempt) → pending_of a ≡ p → IsSettledBy rules false before a last
-        by_pending (Some row) p = by_stage (begins row) (stage_begun _ p) refl
-        by_pending None p = by_stage outside (stage_out _ d.kept.row p) refl
-    settles true (Busy clock) d t = absurd (let f : true ≡ false = d.fits.0 in cc)
-    settles false (Busy clock) d t =
-        settled_try false d a.run.player [] d.nested.deep refl d.fits.1 (stage_of a.run.current) (nat_lt a.run.retries a.run.nth) refl
-        (tried_at (tally_at a (stage_of a.run.current)) [] a.run.retries (taken_at t refl (open_now d.fits.1)) refl)
-    settles was (Full at) d t = settled_as was (taken_at t refl (open_now d.fits.1)) (after_end was d GaveUp a.run.player last.run.current d.fits.1)
-    settles true (Restarted clock word) d t =
-        let row = d.kept.row in
-        let back = is_cut (points_in (stage_of a.run.current)) last.engine.arena last.engine.actions.ran row.0 in
-        settled_as true (taken_at t (stage_open _ row.1) (open_now d.fits.1)) (λ e. after_back d last.run.current (cut_back (points_in (stage_of a.run.current)) last.engine.arena last.engine.actions.ran row.0, ap open_in e, back.outcome ∙ row.2, back.same.thread ∙ row.3) (ap begun_in e)
-        (subst (HasPoints (rules.depth a.run.player)) (sym e) (subst (HasPoints (rules.depth a.run.player)) (stage_open _ row.1) d.points)))
-    settles false (Restarted clock word) d t = absurd (let f : false ≡ true = d.fits.0 in cc)
+  pub settles : IsSettledBy rules was before a last
+  settles =
+      let is : last ≡ Gone = λ i. record { run = record { thread = thread i; retries = retries i; player = told_player takes i; nth = told_nth takes i; again = told_again takes i; current = last.run.current }; engine = engine i; status = takes.status i } in
+      subst (IsSettledBy rules was before a) (sym is) (record {
+        engine = refl;
+        thread = refl;
+        retries = refl;
+        kept = record { row = has_row (in_transaction a.engine) (stage_of last.run.current) refl (subst (StageFits (in_transaction a.engine)) (sym (told_stage takes)) went.stage); tried = went.tried; tries = went.tries; retries = d.kept.retries };
+        rests = rests_as Took.end went.on;
+        falls = falls_as Took.end went.on;
+      })

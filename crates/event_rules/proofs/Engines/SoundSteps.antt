@@ -1,11 +1,11 @@
 -- A step was done, or a call of the player came: its value or the call went to the engine, and what the engine gave may be recorded.
 use Rattle.std.proofs.Common.{◌≡◌, ◌≢◌, ◌⊎◌, [], nat_lt, inl, ℕ, zero, suc, ◌+◌, ◌*◌, ◌/◌, ◌%◌, ◌<◌, ◌≤◌, ◌==◌, Bool, true, false, if◌then◌else◌, Option, None, Some, refl, sym, true≢false, ap, subst, ◌∙◌, arith, eqb-true, inr, length, unwrap_or}
-use Rattle.event_rules.proofs.Common.{Actor, AllFit, Answers, Asks, AsksAs, AsksFor, AsksOf, Attempt, BacksIn, BeganIn, Begin, BeginsAt, Call, Cas, Cells, ClocksOn, Core, Ended, Falls, GoesOn, HasFew, HasPoints, HoldsOn, IsAsked, IsAtOnce, IsDone, IsLawful, IsNested, IsNoMore, IsPromised, IsReady, IsResumed, IsSettledBy, IsSound, IsTied, IsWaiting, Load, MayRunOn, NestsAs, Next, NoCancel, Phase, PlayerRun, Proceeds, Ready, RenewsAs, RestsAs, Rows, Rules, SameActor, Status, StatusIs, Step, Store, TakesIn, Tells, Waits, active_of, asked, asked_began, asked_begun, asked_from, asked_open, asked_points, begins_again, begun_in, came, came_restarted, cells_after, cond_both, count_of, ending_of, found, handed_is, handed_to, in_transaction, irrevocable_room, is_inside, is_ready, is_waiting, may_go, may_go_back, most, most_same, none_inside, open_in, pending_of, rank, rank_now, rank_of, reserved, restarts_left, rests as rested, row_open, row_same, same_Some, snapshot_from, stage_at, stage_from, stage_of, steps_left, told, told_in, total, wanted, whole}
-use Rattle.event_rules.proofs.Rooms.CallRoom.{promised_same, reserved_least, wanted_came, wanted_same}
+use Rattle.event_rules.proofs.Common.{Actor, AllFit, Answers, Asks, AsksAs, AsksFor, AsksOf, Attempt, BacksIn, BeganIn, Begin, BeginsAt, Call, Cas, Cells, ClocksOn, Core, Ended, Falls, GoesOn, HasPoints, HoldsOn, IsAsked, IsDone, IsLawful, IsNested, IsNoMore, IsPromised, IsReady, IsResumed, IsSettledBy, IsSound, IsTied, IsWaiting, Load, MayRunOn, NestsAs, Next, NoCancel, Phase, PlayerRun, Proceeds, Ready, RenewsAs, RestsAs, Rows, Rules, SameActor, Status, StatusIs, Step, Store, TakesIn, Tells, Waits, active_of, asked, asked_began, asked_begun, asked_from, asked_open, asked_points, begins_again, begun_in, came, came_restarted, cancels_in, cells_after, cond_both, count_of, ending_of, ends_in, found, handed_is, handed_to, in_transaction, irrevocable_room, is_inside, is_ready, is_waiting, left_same, may_go, may_go_back, may_same, most, most_same, none_inside, open_in, promised_same, rank, rank_now, rank_of, reserved, reserved_least, restarted_more, restarts_left, rests as rested, revocable_back, row_open, row_same, same_Some, same_room, snapshot_from, stage_at, stage_from, stage_of, steps_left, told, told_in, total, wanted, wanted_came, wanted_same, whole}
 use Rattle.event_rules.proofs.Engines.ClockHolders.{clocks_of, clocks_still, clocks_twice, freed_by}
 use Rattle.event_rules.proofs.Engines.Intakes.{ClockMoves, HasTaken, in_call_of, ready_of}
 use Rattle.event_rules.proofs.Engines.TiedEngines.{IsMid, hands, held_even, holds_handed, clock_same, limit_same, tied, comes}
-use Rattle.event_rules.{proofs.Engines.RestartedEngines.left_same, proofs.Engines.RestartedEngines.may_same, proofs.Engines.RestartedEngines.revocable_back, proofs.Engines.RestartedEngines.restarted_more, proofs.Rooms.ActionRoom.gave_acting, proofs.Rooms.ActionRoom.registers_none, proofs.Rooms.HeldRoom.same_room, proofs.Rooms.LaterActions.first_here}
+use Rattle.event_rules.proofs.Rooms.ActionRoom.{gave_acting, registers_none}
+use Rattle.event_rules.proofs.Rooms.LaterActions.{first_here}
 use Rattle.norec_core.{specs.Keeps.Keeps, specs.declared.call_parts.Opening.Opening}
 use Rattle.norec_core.specs.Phases as at
 use Rattle.event_rules.proofs.Rooms.ActionRoom.{TakesRoom}
@@ -47,15 +47,8 @@ module _ (new : Core) (some : new.waits ≢ None) (asks : new.waits ≡ asked ne
   begun_at stage e (inl idle) = absurd (some (asks ∙ ap (asked_from new) (e ∙ idle)))
   begun_at stage e (inr begins) = subst (BeginsAt new) (sym e) begins
 
-  module _ (b : Opening) (doing : new.doing ≡ Some (Begin b.props b.room)) where
-    begins_or_not : (more : Bool) → (more ≡ true → may_go new.blocks b.props ≡ true) → IsFine (if more then at.Begin b else at.Idle)
-    begins_or_not true may = inr (doing, may refl)
-    begins_or_not false may = inl refl
-
-    takes_or_not : may_go new.blocks b.props ≡ true → new.clock ≡ new.snapshot → (goes few : Bool) → IsFine (if goes then (if few then at.Take b else at.Idle) else at.Idle)
-    takes_or_not may same true true = inr (doing, may, same)
-    takes_or_not may same true false = inl refl
-    takes_or_not may same false few = inl refl
+  begins_or_not : (b : Opening) → new.doing ≡ Some (Begin b.props b.room) → (more : Bool) → (more ≡ true → may_go new.blocks b.props ≡ true) → IsFine (if more then at.Begin b else at.Idle)
+  begins_or_not b doing more may = cond_both more _ _ IsFine (λ m. inr (doing, may m)) (λ m. inl refl)
 
   -- once a step was done
   begun_after : (old : Core) (seen : ℕ) (stage : Phase) → BeginsAt old stage → new.doing ≡ old.doing → new.blocks ≡ old.blocks → new.stage ≡ stage_from old stage seen → new.snapshot ≡ snapshot_from old stage seen
@@ -63,7 +56,8 @@ module _ (new : Core) (some : new.waits ≢ None) (asks : new.waits ≡ asked ne
   begun_after old seen (at.Begin b) begun doing blocks order snapshot clock =
       let may = ap (λ (bs : _). may_go bs b.props) blocks ∙ begun.1 in
       begun_at _ order (cond_both (seen % 2 == 0) _ _ IsFine
-      (λ even. takes_or_not b (doing ∙ begun.0) may (clock b refl ∙ sym (snapshot ∙ ap (λ (x : Bool). if x then seen else old.snapshot) even)) b.props.goes_irrevocable (nat_lt (seen / 2) old.max_commits))
+      (λ even. cond_both b.props.goes_irrevocable _ _ IsFine (λ goes. cond_both (nat_lt (seen / 2) old.max_commits) _ _ IsFine
+      (λ few. inr (doing ∙ begun.0, may, clock b refl ∙ sym (snapshot ∙ ap (λ (x : Bool). if x then seen else old.snapshot) even))) (λ full. inl refl)) (λ stays. inl refl))
       (λ odd. begins_or_not b (doing ∙ begun.0) (nat_lt old.tries old.patience) (λ m. may)))
   begun_after old seen (at.Take b) begun doing blocks order snapshot clock =
       let may = ap (λ (bs : _). may_go bs b.props) blocks ∙ begun.1 in
@@ -139,39 +133,31 @@ module _ {P : Type 0} {rules : Rules P} {cells : Cells} {r : Rows} {old : Actor 
       let k = m.sound.kept in
       let inside : in_transaction mid_step ≡ in_transaction old.engine = ap is_inside same.blocks in
       let doing : mid_step.doing ≡ Some call = same.doing ∙ waits.doing in
-      let place : (row : Attempt) → active_of old ≡ Some row → wanted mid_step < row.calls.room = λ row e. (let least = (subst (IsPromised old) m.waiting m.sound.acts.backed row e).least in let same = same_wants in omega arith) in
-      let pending : (row : Attempt) → pending_of old ≡ Some row → row.calls.room ≡ wanted mid_step = λ row e. (subst (AsksAs old) m.waiting m.sound.acts.asks).pending row e ∙ sym same_wants in
-      let empty : in_transaction old.engine ≡ false → mid_step.writes ≡ [] = λ e. same.writes ∙ (m.sound.tied.settled.closed e).1 in
-      let outside : in_transaction old.engine ≡ false → mid_step.holds ≡ false → (cells'.clock ≡ cells.clock) × ((mid_step.clock ≡ cells'.clock) ⊎ IsAtOnce what) =
-      λ e free. (let l = loads_clock cells old.engine m.step m.sound.tied waits.lawful e free in (ap (λ (c : Cells). c.clock) m.cells_are ∙ l.0, inl (l.1 ∙ ap (λ (c : Cells). c.clock) (sym m.cells_are)))) in
-      let first = first_here old mid_step new call what (in_transaction old.engine) inside k.row doing went (λ row e. m.sound.acts.all row e ∙ ap (λ (x : _). length x.ran) (sym same.actions)) in
-      let few : HasFew (record old { engine = new; status = status }) = λ row e. (let f = m.sound.acts.few row e in let n = same.restarted in let more = restarted_more mid_step new what m.resumed.settled went in omega arith) in
-      assumption (
-        inside,
-        went,
-        doing,
-        is_mid.words,
-        tied cells' mid_step new what is_mid went,
-        m.resumed.count,
-        row_same (in_transaction old.engine) old (record old { engine = new; status = status }) refl refl k.row,
-        k,
-        first,
-        few,
-        m.sound.acts.began,
-        waits.points,
-        waits.nested,
-        waits.depth ∙ ap length (sym same.blocks),
-        in_call_of new status waits.in_call,
-        place,
-        m.sound.place,
-        pending,
-        ready,
-        moves,
-        empty,
-        m.resumed.asks,
-        step_begun,
-        outside,
-      )
+      record {
+        was_is = inside;
+        proceeds = went;
+        doing = doing;
+        words = is_mid.words;
+        tied = tied cells' mid_step new what is_mid went;
+        within = m.resumed.count;
+        kept = record { row = row_same (in_transaction old.engine) old (record old { engine = new; status = status }) refl refl k.row; tried = k.tried; tries = k.tries; retries = k.retries };
+        first = first_here old mid_step new call what (in_transaction old.engine) inside k.row doing went (λ row e. m.sound.acts.all row e ∙ ap (λ (x : _). length x.ran) (sym same.actions));
+        few = λ row e. (let f = m.sound.acts.few row e in let n = same.restarted in let more = restarted_more mid_step new what m.resumed.settled went in omega arith);
+        began = m.sound.acts.began;
+        points = waits.points;
+        nested = waits.nested;
+        depth = waits.depth ∙ ap length (sym same.blocks);
+        in_call = in_call_of new status waits.in_call;
+        place = λ row e. (let least = (subst (IsPromised old) m.waiting m.sound.acts.backed row e).least in let same = same_wants in omega arith);
+        pending = λ row e. (subst (AsksAs old) m.waiting m.sound.acts.asks).pending row e ∙ sym same_wants;
+        ready = ready;
+        room = m.sound.place;
+        moves = moves;
+        empty = λ e. same.writes ∙ (m.sound.tied.settled.closed e).1;
+        asks = m.resumed.asks;
+        begun = step_begun;
+        outside = λ e free. (let l = loads_clock cells old.engine m.step m.sound.tied waits.lawful e free in (ap (λ (c : Cells). c.clock) m.cells_are ∙ l.0, inl (l.1 ∙ ap (λ (c : Cells). c.clock) (sym m.cells_are))));
+      }
 
   -- the room for a block that runs again is that which was there
   renews_still : TakesRoom what → may_go_back (handed_to old.engine (Some m.step) (found cells m.step)) ≡ true → BacksIn (length (handed_to old.engine (Some m.step) (found cells m.step)).arena) (total (handed_to old.engine (Some m.step) (found cells m.step)).actions) old.run.current
@@ -193,7 +179,7 @@ module _ {P : Type 0} {rules : Rules P} {cells : Cells} {r : Rows} {old : Actor 
       gave_acting (record old { engine = new; status = status }) (handed_to old.engine (Some m.step) (found cells m.step)) call (in_transaction old.engine) inside (row_same (in_transaction old.engine) old (record old { engine = new; status = status }) refl refl m.sound.kept.row) (same.doing ∙ waits.doing)
       (λ row e. acts.all row e ∙ ap (λ (x : _). length x.ran) (sym same_actions)) (λ row e. (let f = acts.few row e in let n = same.restarted in omega arith)) (subst (λ (s : Status). NestsAs s old.run.current) m.waiting acts.nests) acts.began
       (λ row e. (let p = acts.places row e in let n = registers_none call plain.1 in let t = ap total same_actions in omega arith)) (λ row e abort. absurd (let both : false ≡ true = sym plain.0 ∙ abort in cc)) acts.pending
-      (same_room old.engine (handed_to old.engine (Some m.step) (found cells m.step)) old (sym same.depth) (sym same.blocks) (sym same.irrevocable) (sym same.doing) (sym same.room) (sym same.actions) acts.room)
+      (same_room old.engine (handed_to old.engine (Some m.step) (found cells m.step)) (ends_in old.run.current) (cancels_in old.run.current) (sym same.depth) (sym same.blocks) (sym same.irrevocable) (sym same.doing) (sym same.room) (sym same.actions) acts.room)
       (λ row e. (let p = subst (IsPromised old) m.waiting acts.backed row e in let least = p.least in let most = p.most in let w = same_wants in let n = promised_same (handed_to old.engine (Some m.step) (found cells m.step)) old.engine same.irrevocable same.room in record { least = omega arith; most = omega arith }))
       (λ row e. asks.pending row e ∙ sym same_wants) (let k = asks.backed in let n = same.room in let l = same_wants in omega arith) m.resumed.settled what went renews_still (λ shut. (let none = (m.sound.tied.settled.closed (sym inside ∙ shut)) in (ap (λ (x : _). x.commits) same_actions ∙ none.2, ap (λ (x : _). x.undos) same_actions ∙ none.3))) (λ step e. plain)
 
@@ -217,9 +203,6 @@ module _ {P : Type 0} {rules : Rules P} {cells : Cells} {r : Rows} {old : Actor 
   -- nor has the number of restarts that are left, as the value came
   pub step_left : restarts_left (handed_to old.engine (Some m.step) (found cells m.step)) ≡ restarts_left old.engine
   step_left = left_same mid_step old.engine (ap is_inside same.blocks) same.restarts (λ o. same.restarted)
-
-  pub limit_is : new.max_commits ≡ old.engine.max_commits
-  limit_is = (limit_same mid_step new what went).0 ∙ same.max_commits
 
 -- the call goes on, with fewer steps left
 module _ {P : Type 0} {rules : Rules P} {cells : Cells} {r : Rows} {old : Actor P} {call : Call} {cells' : Cells} {new : Core} {step : Step} (m : IsStepping rules cells r old call (Asks step) cells' new) where
@@ -298,10 +281,6 @@ module _ {P : Type 0} {rules : Rules P} {cells : Cells} {r0 r : Rows} {old a : A
   abbrev pub mid : Core
   mid = came old.engine call (begins_again (stage_of old.run.current) old.run.again call)
 
-  -- the attempt that its begin is to open has the room that it asks for
-  pending_wants : (row : Attempt) → pending_of a ≡ Some row → row.calls.room ≡ unwrap_or (irrevocable_room old.engine call) 0
-  pending_wants row e = ap (λ (x : Attempt). x.calls.room) (asked_begun cells.clock old call (stage_of old.run.current) row (rests m.sound m.ready).nothing (sym (ap begun_in m.asks.stage) ∙ e)).3
-
   -- its open one is that of before, with room for the call and what it asks for
   pub asked_row : (row : Attempt) → active_of a ≡ Some row → (was : Attempt) × (active_of old ≡ Some was) × (row ≡ record was { calls = reserved was.calls (unwrap_or (irrevocable_room old.engine call) 0 + 1) })
   asked_row row e = asked_open cells.clock old call (stage_of old.run.current) row (sym (ap open_in m.asks.stage) ∙ e)
@@ -315,54 +294,45 @@ module _ {P : Type 0} {rules : Rules P} {cells : Cells} {r0 r : Rows} {old a : A
       let again = begins_again (stage_of old.run.current) old.run.again call in
       let wants = wanted_came old.engine call again in
       let called = m.asks.called in
-      let place : (row : Attempt) → active_of a ≡ Some row → wanted mid < row.calls.room =
-      λ row e. (let was = asked_row row e in let more = reserved_least was.0.calls (unwrap_or (irrevocable_room old.engine call) 0) in let n = ap (λ (x : Attempt). x.calls.room) was.2 in let w = wants in omega arith) in
-      let pending : (row : Attempt) → pending_of a ≡ Some row → row.calls.room ≡ wanted mid = λ row e. pending_wants row e ∙ sym wants in
-      let moves : ClockMoves cells cells mid = record { frees = λ f. absurd (cc); keeps = λ f. refl } in
-      let empty : in_transaction old.engine ≡ false → mid.writes ≡ [] = λ o. (m.sound.tied.settled.closed o).1 in
-      let begun : a.engine.waits ≢ None → in_transaction a.engine ≡ false → BeginsAt a.engine a.engine.stage =
-      λ some shut. (let went_on = asks_step mid a.engine what called.proceeds some in begun_call a.engine some called.asks old.engine call again (sym (ap is_inside went_on.0) ∙ shut) went_on.1 went_on.0 called.order) in
-      let outside : in_transaction old.engine ≡ false → mid.holds ≡ false → (cells.clock ≡ cells.clock) × ((mid.clock ≡ cells.clock) ⊎ IsAtOnce what) = λ o free. (refl, inr called.at_once) in
-      let first = first_here a mid a.engine call what (in_transaction old.engine) refl m.asked.kept.row refl called.proceeds (λ row e. (let was = asked_row row e in ap told_in was.2 ∙ m.sound.acts.all was.0 was.1)) in
-      let few : HasFew a = λ row e.
-      (let was = asked_row row e in
-      let f = m.sound.acts.few was.0 was.1 in
-      let n = ap (λ (x : Attempt). length x.restarts) was.2 in
-      let same = came_restarted old.engine call again (row_open _ old was.0 m.sound.kept.row was.1) in
-      let more = restarted_more mid a.engine what called.settled called.proceeds in
-      omega arith) in
-      let began : BeganIn (stage_of a.run.current) = subst BeganIn (sym m.asks.stage) (asked_began cells.clock old call (stage_of old.run.current) m.sound.acts.began) in
-      let points : HasPoints (rules.depth a.run.player) (stage_of a.run.current) = subst (λ (p : P). HasPoints (rules.depth p) (stage_of a.run.current)) (sym player_same) (subst (HasPoints (rules.depth old.run.player)) (sym m.asks.stage) (asked_points cells.clock old call (rules.depth old.run.player) (stage_of old.run.current) ready.points)) in
-      assumption (
-        called.proceeds,
-        m.sound.tied.words,
-        tied cells mid a.engine what (comes cells old.engine a.engine m.sound.tied called.settled call again) called.proceeds,
-        called.count,
-        m.asked.kept,
-        first,
-        few,
-        began,
-        points,
-        subst (IsNested rules (in_transaction old.engine)) (sym player_same) ready.nested,
-        ap rules.depth player_same ∙ ready.depth,
-        m.asked.in_call,
-        place,
-        m.place,
-        pending,
-        m.asked.status ∙ m.ready,
-        moves,
-        empty,
-        called.asks,
-        begun,
-        outside,
-      )
+      record {
+        was_is = refl;
+        proceeds = called.proceeds;
+        doing = refl;
+        words = m.sound.tied.words;
+        tied = tied cells mid a.engine what (comes cells old.engine a.engine m.sound.tied called.settled call again) called.proceeds;
+        within = called.count;
+        kept = m.asked.kept;
+        first = first_here a mid a.engine call what (in_transaction old.engine) refl m.asked.kept.row refl called.proceeds (λ row e. (let was = asked_row row e in ap told_in was.2 ∙ m.sound.acts.all was.0 was.1));
+        few = λ row e.
+            (let was = asked_row row e in
+            let f = m.sound.acts.few was.0 was.1 in
+            let n = ap (λ (x : Attempt). length x.restarts) was.2 in
+            let same = came_restarted old.engine call again (row_open _ old was.0 m.sound.kept.row was.1) in
+            let more = restarted_more mid a.engine what called.settled called.proceeds in
+            omega arith);
+        began = subst BeganIn (sym m.asks.stage) (asked_began cells.clock old call (stage_of old.run.current) m.sound.acts.began);
+        points = subst (λ (p : P). HasPoints (rules.depth p) (stage_of a.run.current)) (sym player_same) (subst (HasPoints (rules.depth old.run.player)) (sym m.asks.stage) (asked_points cells.clock old call (rules.depth old.run.player) (stage_of old.run.current) ready.points));
+        nested = subst (IsNested rules (in_transaction old.engine)) (sym player_same) ready.nested;
+        depth = ap rules.depth player_same ∙ ready.depth;
+        in_call = m.asked.in_call;
+        place = λ row e. (let was = asked_row row e in let more = reserved_least was.0.calls (unwrap_or (irrevocable_room old.engine call) 0) in let n = ap (λ (x : Attempt). x.calls.room) was.2 in let w = wants in omega arith);
+        pending = λ row e. ap (λ (x : Attempt). x.calls.room) (asked_begun cells.clock old call (stage_of old.run.current) row ready.nothing (sym (ap begun_in m.asks.stage) ∙ e)).3 ∙ sym wants;
+        ready = m.asked.status ∙ m.ready;
+        room = m.place;
+        moves = record { frees = λ f. absurd (cc); keeps = λ f. refl };
+        empty = λ o. (m.sound.tied.settled.closed o).1;
+        asks = called.asks;
+        begun = λ some shut. (let went_on = asks_step mid a.engine what called.proceeds some in begun_call a.engine some called.asks old.engine call again (sym (ap is_inside went_on.0) ∙ shut) went_on.1 went_on.0 called.order);
+        outside = λ o free. (refl, inr called.at_once);
+      }
 
   -- nor does the number of restarts that are left, or what is left at all
-  pub call_left : restarts_left (came old.engine call (begins_again (stage_of old.run.current) old.run.again call)) ≡ restarts_left old.engine
-  call_left = left_same mid old.engine refl refl (λ o. came_restarted old.engine call (begins_again (stage_of old.run.current) old.run.again call) o)
 
   pub same_rank : (n : ℕ) → rank rules n (in_transaction old.engine) (restarts_left (came old.engine call (begins_again (stage_of old.run.current) old.run.again call))) a ≡ rank rules n (in_transaction old.engine) (restarts_left old.engine) old
-  same_rank n = (let most = (limit_same mid a.engine what m.asks.called.proceeds).3 in λ i. rank_of rules (ap (λ (x : PlayerRun P). x.retries) m.asks.run i) (most i) n (in_transaction old.engine) (ap (λ (x : PlayerRun P). x.nth) m.asks.run i) (call_left i) (player_same i))
+  same_rank n =
+      let most = (limit_same mid a.engine what m.asks.called.proceeds).3 in
+      let left : restarts_left mid ≡ restarts_left old.engine = left_same mid old.engine refl refl (λ o. came_restarted old.engine call (begins_again (stage_of old.run.current) old.run.again call) o) in
+      λ i. rank_of rules (ap (λ (x : PlayerRun P). x.retries) m.asks.run i) (most i) n (in_transaction old.engine) (ap (λ (x : PlayerRun P). x.nth) m.asks.run i) (left i) (player_same i)
 
   module _ {last : Actor P} (s : IsSettledBy rules (in_transaction old.engine) (restarts_left (came old.engine call (begins_again (stage_of old.run.current) old.run.again call))) a last) where
     -- what comes of an answer is as if the actor had not changed before

@@ -1,8 +1,7 @@
 -- The engine and the cells, over one event: the engine's data stay as the cells have them.
-use Rattle.std.proofs.Common.{◌≡◌, List, [], None, ℕ, zero, suc, ◌+◌, ◌*◌, ◌/◌, ◌%◌, ◌^◌, ◌<◌, ◌≤◌, ◌==◌, Bool, true, false, length, Option, Some, slice_index, refl, sym, ap, subst, ◌∙◌, arith, if◌then◌else◌, eqb-true, length-set}
-use Rattle.event_rules.proofs.Common.{AllFit, Answer, AnswerFits, Answers, AreRead, Asks, Begin, Busy, Call, Cas, Cells, Commit, Committed, Conflict, ConflictsIn, Core, Ends, Frame, Full, HoldsOn, Idle, IsBegin, IsLawful, IsLog, IsSettled, IsTied, Load, MAX_COMMITS, Mode, Next, Proceeds, Reply, Restarted, Step, Store, WantsClock, after_undoing, both_ways, came, cells_after, cond-false, cond-true, cond_both, found, handed_to, in_transaction, is_begin, is_inside, none_inside, opening, replied_so, reply_cases, rests, rolled_back, word_loaded}
-use Rattle.event_rules.proofs.Engines.RestartedEngines.{is_back}
-use Rattle.{access_rules.proofs.Overlays.agreed, run_rules.proofs.EngineDepths.reply_fits}
+use Rattle.std.proofs.Common.{◌≡◌, List, [], None, ℕ, zero, suc, ◌+◌, ◌*◌, ◌/◌, ◌%◌, ◌^◌, ◌<◌, ◌≤◌, ◌==◌, Bool, true, false, length, Some, slice_index, refl, sym, ap, subst, ◌∙◌, arith, if◌then◌else◌, eqb-true, length-set}
+use Rattle.event_rules.proofs.Common.{AllFit, Answers, AreRead, Asks, Call, Cas, Cells, Core, HoldsOn, Idle, IsLawful, IsLog, IsSettled, IsTied, Load, MAX_COMMITS, Next, Proceeds, Step, Store, after_undoing, both_ways, came, cells_after, cond-false, cond-true, cond_both, found, handed_to, in_transaction, is_inside, opening, rests, rolled_back, word_loaded}
+use Rattle.access_rules.proofs.Overlays.{agreed}
 
 -- ## The engine with a call that came, or with the value of its step
 
@@ -53,9 +52,6 @@ module _ (cells : Cells) (e new : Core) (t : IsTied cells e) (settled : IsSettle
   pub comes : (call : Call) (again : Bool) → IsMid cells (came e call again) new
   comes call again = record { words = t.words; fit = t.fit; late = t.late; holder = t.holder; even = held_even e t.settled; settled = settled; small = t.small }
 
-  taken : (b : Bool) (clock from to : ℕ) → b ≡ true → clock ≡ from → to ≡ from + 1 → (if b then to else clock) ≡ clock + 1
-  taken b clock from to hit is up = ap (λ (x : Bool). if x then to else clock) hit ∙ (let k : to ≡ clock + 1 = omega arith in k)
-
   word_taken : (word seen : ℕ) → AllFit cells.words → (holds : Bool) → IsMid cells (word_loaded e holds word seen) new
   word_taken word seen fit true = record { words = t.words; fit = fit; late = t.late; holder = t.holder; even = held_even e t.settled; settled = settled; small = t.small }
   word_taken word seen fit false = record { words = t.words; fit = fit; late = t.late; holder = t.holder; even = held_even e t.settled; settled = settled; small = t.small }
@@ -72,15 +68,17 @@ module _ (cells : Cells) (e new : Core) (t : IsTied cells e) (settled : IsSettle
     settled = settled;
     small = t.small;
     late = cond_both (cells.clock == from) to cells.clock (λ (n : ℕ). cells.clock ≤ n) (λ h. (let same = eqb-true cells.clock from h in let up = l.6 in omega arith)) (λ h. omega arith);
-    holder = λ h. taken (cells.clock == from) cells.clock from to h (eqb-true cells.clock from h) l.6;
+    holder = λ h. ap (λ (x : Bool). if x then to else cells.clock) h ∙ (let same = eqb-true cells.clock from h in let up = l.6 in let k : to ≡ cells.clock + 1 = omega arith in k);
     even = λ h. (let same = eqb-true cells.clock from h in let even = l.4 in omega arith);
   }
 
 -- ## Who holds the clock
 
--- giving up leaves the snapshot
-pub snapshot_still : (e new : Core) → new ≡ after_undoing e → new.snapshot ≡ e.snapshot
-snapshot_still e new is = ap (λ (c : Core). c.snapshot) is ∙ cond_both e.holds _ _ (λ (c : Core). c.snapshot ≡ e.snapshot) (λ h. refl) (λ h. refl)
+-- giving up leaves the clock that was seen last, the limits and the snapshot
+pub undone_keeps : (e new : Core) → new ≡ after_undoing e → (new.clock ≡ e.clock) × (new.holds ≡ e.holds) × (new.max_commits ≡ e.max_commits) × (new.patience ≡ e.patience) × (new.depth ≡ e.depth) × (new.restarts ≡ e.restarts) × (new.snapshot ≡ e.snapshot)
+undone_keeps e new is =
+    let Kept : Core → Type 0 = λ c. (c.clock ≡ e.clock) × (c.holds ≡ e.holds) × (c.max_commits ≡ e.max_commits) × (c.patience ≡ e.patience) × (c.depth ≡ e.depth) × (c.restarts ≡ e.restarts) × (c.snapshot ≡ e.snapshot) in
+    subst Kept (sym is) (cond_both e.holds e (record (rolled_back e) { stage = Idle; tries = 0 }) Kept (λ h. (refl, refl, refl, refl, refl, refl, refl)) (λ h. (refl, sym h, refl, refl, refl, refl, refl)))
 
 -- it waits for nothing, if it did not
 pub idle_still : (e new : Core) → new ≡ after_undoing e → e.waits ≡ None → new.waits ≡ None
@@ -166,35 +164,3 @@ holds_handed cells e (Cas cell from to) t l = record {
   capped = λ m. cond_both (cells.clock == from) to cells.clock (λ (n : ℕ). n ≤ 2 * e.max_commits) (λ h. (let even = l.4 in let few = l.5 in let up = l.6 in omega arith)) (λ h. m);
   seen = λ s f. sym (ap (λ (b : Bool). if b then to else cells.clock) f);
 }
-
--- ## What the answer says
-
--- what is full is a commit, or a call that makes the transaction irrevocable; outside a transaction a begin
-wants_begin : (c : Core) (call : Call) → WantsClock c (Some call) → in_transaction c ≡ false → is_begin call ≡ true
-wants_begin c (Begin props room) w shut = refl
-wants_begin c Commit w shut = absurd (let none = ap (λ (bs : List Frame). length bs) (none_inside c.blocks shut) in omega (arith, w.0, none))
-wants_begin c (Mode room) w shut = absurd (let none = rw shut at w in cc)
-wants_begin c call w shut = absurd (cc)
-
-begin_is : (doing : Option Call) (call : Call) → doing ≡ Some call → IsBegin doing → is_begin call ≡ true
-begin_is None call d b = absurd b
-begin_is (Some (Begin props room)) call d b = (let same : Begin props room ≡ call = cc in sym (ap is_begin same))
-begin_is (Some other) call d b = absurd b
-
-module _ (mid new : Core) (settled : IsSettled new) where
-  conflict_fits : (call : Call) (clock : ℕ) (word : Option ℕ) (inside : Bool) → mid.doing ≡ Some call → ConflictsIn inside mid clock word new → (inside ≡ false → is_begin call ≡ true) × (in_transaction new ≡ false)
-  conflict_fits call clock word true doing g = (λ shut. absurd (cc), ap in_transaction g.stays)
-  conflict_fits call clock word false doing g = (λ shut. begin_is mid.doing call doing g.begins, ap in_transaction g.stays)
-
-  pub answer_fits : (call : Call) (a : Answer) → mid.doing ≡ Some call → Ends mid a new → AnswerFits (in_transaction mid) (length mid.blocks) (in_transaction new) (length new.blocks) call a
-  answer_fits call (Reply r) doing g =
-      let told = replied_so mid new call r (reply_cases mid new call r doing g) in
-      (sym (reply_fits mid call r) ∙ told.deep, told.still)
-  answer_fits call (Committed at wrote) doing g =
-      let same : Some call ≡ Some Commit = sym doing ∙ g.doing in
-      let is : call ≡ Commit = cc in
-      (g.is_open, ap in_transaction g.stays, is, g.outermost)
-  answer_fits call (Conflict clock word) doing g = conflict_fits call clock word (in_transaction mid) doing g
-  answer_fits call (Restarted clock word) doing g = (let b = is_back mid new clock word settled g in (b.was, b.still, sym b.deep, b.inner))
-  answer_fits call (Busy clock) doing g = (g.closed, ap in_transaction g.stays)
-  answer_fits call (Full at) doing g = (wants_begin mid call (subst (WantsClock mid) doing g.wants), ap in_transaction g.stays)

@@ -1,40 +1,31 @@
 -- An event of one actor leaves the others sound.
-use Rattle.std.proofs.Common.{◌≡◌, ◌≢◌, ◌⊎◌, inl, inr, ℕ, zero, suc, ◌+◌, ◌%◌, ◌<◌, ◌≤◌, true, false, List, [], ◌∷◌, ◌++◌, length, length-append, Some, slice_get, slice_set, refl, sym, ap, subst, ◌∙◌, arith, eqb-true, ◌==◌, length-set, ◌/◌, is_some}
-use Rattle.event_rules.proofs.Common.{Actor, AllFit, AreActors, Attempt, Cells, ClocksOn, Ended, IsActor, IsInCall, IsSound, IsTied, KeepsOthers, MAX_ACTORS, Ready, Rows, Rules, Stage, Status, StatusIs, Waits, both_ways, cases_Bool, count_all, count_in, count_of, eqb-false, false_from_ne_true, in_transaction, is_ready, moved_begun, moved_count, moved_points, odd_or_even, others_same, outside, set_place, slice_get-set_other, slice_get-set_same, slice_get_within, stage_of, told, told_kept, within}
-use Rattle.event_rules.{proofs.Engines.TiedEngines.held_even, proofs.Rooms.ActionRoom.told_acting}
+use Rattle.std.proofs.Common.{◌≡◌, ◌≢◌, ◌⊎◌, inl, inr, ℕ, zero, suc, ◌+◌, ◌%◌, ◌<◌, ◌≤◌, true, false, List, [], ◌∷◌, ◌++◌, length, length-append, Some, slice_get, slice_set, refl, sym, ap, subst, ◌∙◌, arith, eqb-true, ◌==◌, length-set, ◌/◌}
+use Rattle.event_rules.proofs.Common.{Actor, AllFit, AreActors, Cells, ClocksOn, Current, IsActor, IsInCall, IsSound, IsTied, KeepsOthers, MAX_ACTORS, Ready, Rows, Rules, Stage, Status, StatusIs, Waits, Within, both_ways, cases_Bool, count_all, count_in, count_of, eqb-false, false_from_ne_true, in_transaction, is_ready, moved_count, moved_to, odd_or_even, others_same, outside, set_place, slice_get-set_other, slice_get-set_same, slice_get_within, stage_of, told, told_kept, within}
+use Rattle.event_rules.{proofs.Engines.TiedEngines.held_even, proofs.Rooms.ActionRoom.at_current, proofs.Rooms.ActionRoom.told_acting}
 use Rattle.{tx_runs.specs.Tallies.begins}
 
 module _ {P : Type 0} (rules : Rules P) where
   -- another one, where the cells of the clock that it holds did not change
-  pub tied_still : (cells cells' : Cells) (b : Actor P) → IsTied cells b.engine → AllFit cells'.words → cells.clock ≤ cells'.clock → length cells'.words ≡ length cells.words → (b.engine.holds ≡ true → cells' ≡ cells) → IsTied cells' b.engine
-  tied_still cells cells' b t fit late long held =
-      record { words = t.words ∙ sym long; fit = fit; late = (let l = t.late in omega arith); holder = λ h. ap (λ (c : Cells). c.clock) (held h) ∙ t.holder h; settled = t.settled; small = t.small }
-
   pub sound_still : (cells cells' : Cells) (r r' : Rows) (b : Actor P) → IsSound rules cells r b
       → AllFit cells'.words → cells.clock ≤ cells'.clock → length cells'.words ≡ length cells.words → (b.engine.holds ≡ true → cells' ≡ cells) → count_of b ≤ r'.room → IsSound rules cells' r' b
-  sound_still cells cells' r r' b s fit late long held room = record { tied = tied_still cells cells' b s.tied fit late long held; kept = s.kept; acts = s.acts; status = s.status; place = room }
+  sound_still cells cells' r r' b s fit late long held room =
+      let t = s.tied in
+      let tied : IsTied cells' b.engine = record { words = t.words ∙ sym long; fit = fit; late = omega (arith, t.late); holder = λ h. ap (λ (c : Cells). c.clock) (held h) ∙ t.holder h; settled = t.settled; small = t.small } in
+      record { tied = tied; kept = s.kept; acts = s.acts; status = s.status; place = room }
 
   -- one whose open attempt is told where its engine reads
-  told_status : (a : Actor P) (s : Status) → StatusIs rules a s → StatusIs rules (told a) s
-  told_status a Ready s = record { nested = s.nested; depth = s.depth; points = moved_points (a.engine.snapshot / 2) (rules.depth a.run.player) a.run.current s.points; idle = s.idle; free = s.free; nothing = moved_begun (a.engine.snapshot / 2) a.run.current ∙ s.nothing }
-  told_status a (Waits call step) s =
-      let same = moved_begun (a.engine.snapshot / 2) a.run.current in
+  told_status : (a : Actor P) (s : Status) (c : Current) → StatusIs rules (at_current a c) s → StatusIs rules (at_current a (moved_to (a.engine.snapshot / 2) c)) s
+  told_status a Ready (Within o) s = record { nested = s.nested; depth = s.depth; points = s.points; idle = s.idle; free = s.free; nothing = s.nothing }
+  told_status a (Waits call step) (Within o) s =
       let i = s.in_call in
-      let in_call : IsInCall rules (in_transaction a.engine) (told a) call = record {
-        asks = i.asks;
-        begins = λ x. ap (is_some {T = Attempt}) same ∙ i.begins x;
-        inside = λ x. same ∙ i.inside x;
-        opens = λ row e. (let p = i.opens row (sym same ∙ e) in record { thread = p.thread; nth = p.nth; outcome = p.outcome });
-        props = λ row props room e. i.props row props room (sym same ∙ e);
-      } in
-      let points = moved_points (a.engine.snapshot / 2) (rules.depth a.run.player) a.run.current s.points in
-      assumption (in_call, points, s)
-  told_status a (Ended end) s = s
+      let in_call : IsInCall rules (in_transaction a.engine) (at_current a (moved_to (a.engine.snapshot / 2) (Within o))) call = record { asks = i.asks; begins = i.begins; inside = i.inside; opens = λ row e. absurd (cc); props = i.props } in
+      assumption (in_call, s)
+  told_status a s c x = x
 
   pub told_sound : {cells : Cells} {r : Rows} {a : Actor P} → IsSound rules cells r a → IsSound rules cells r (told a)
   told_sound {r = r} {a = a} s =
       let place : count_of (told a) ≤ r.room = (let n = moved_count (a.engine.snapshot / 2) a.run.current in let p = s.place in omega arith) in
-      assumption (told_kept a s.kept, told_acting a s.acts, told_status a a.status s.status, place, s)
+      assumption (told_kept a s.kept, told_acting a s.acts, told_status a a.status a.run.current s.status, place, s)
 
 -- its room and its thread are the same
 pub told_others : {P : Type 0} (a : Actor P) (r : Rows) → KeepsOthers a r (told a) r

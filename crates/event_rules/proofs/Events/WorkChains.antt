@@ -1,20 +1,13 @@
 -- Local work of an actor, one call of its player after the other: all that it leaves.
 use Rattle.std.proofs.Common.{◌≡◌, ℕ, zero, suc, true, false, List, ◌++◌, None, Some, refl, sym, ap, subst, ◌∙◌, arith}
-use Rattle.event_rules.proofs.Common.{Actor, Acts, ActsOn, Attempt, Call, Cells, Core, Ended, Extends, Finished, HasWorked, Idle, IsActing, IsDone, IsNoMore, IsPromised, IsSound, KeepsOthers, Next, Obeys, PlayerRun, Ready, Rows, Rules, SameActor, Starves, StillRuns, Tells, Tries, Works, after_undoing, calls, cond_both, ending_of, extends_twice, finishes, in_transaction, is_ready, less_less, others_place, others_same, others_twice, prior_of, rank, rank_now, restarts_left, rolled_back, row_same, same_less, starves, whole}
-use Rattle.event_rules.proofs.Engines.RestartedEngines.{left_same}
-use Rattle.event_rules.proofs.Runs.Calls.{call_runs, finish_runs, laid_calls, starve_runs, still_at}
+use Rattle.event_rules.proofs.Common.{Actor, Acts, ActsOn, Attempt, Call, Cells, Core, Ended, Extends, Finished, HasWorked, IsActing, IsDone, IsNoMore, IsPromised, IsSound, KeepsOthers, Next, Obeys, PlayerRun, Ready, Rows, Rules, SameActor, Starves, StillRuns, Tells, Tries, Works, bytes_stay, calls, ending_of, extends_twice, finishes, in_transaction, is_ready, left_same, less_less, others_place, others_same, others_twice, prior_of, rank, rank_now, restarts_left, row_same, same_less, starves, stays, whole}
+use Rattle.event_rules.proofs.Runs.Calls.{call_runs, finish_runs, starve_runs, still_at}
 use Rattle.event_rules.proofs.Engines.SoundSteps.{IsCalling, call_less, call_taken, mid, player_same, rests, same_rank}
-use Rattle.event_rules.proofs.Engines.Intakes.{now, ready_of, recorded, still_going}
-use Rattle.event_rules.{proofs.Commits.CommitCounts.counted_after, proofs.Engines.TiedEngines.clock_same, proofs.Engines.TiedEngines.limit_same, proofs.Engines.TiedEngines.snapshot_still, proofs.Tries.AnswerEndings.not_finished, proofs.Tries.TryCalls.call_tries, proofs.Tries.TryCalls.finish_tries, proofs.Tries.TryCalls.starve_tries, proofs.Tries.TryChains.tries_still, proofs.Tries.TryChains.tries_then}
+use Rattle.event_rules.proofs.Engines.Intakes.{not_finished, now, ready_of, recorded, still_going}
+use Rattle.event_rules.{proofs.Commits.CommitCounts.counted_after, proofs.Commits.LaidWords.laid_on, proofs.Engines.TiedEngines.clock_same, proofs.Engines.TiedEngines.limit_same, proofs.Engines.TiedEngines.undone_keeps, proofs.Tries.TryCalls.call_tries, proofs.Tries.TryCalls.starve_tries, proofs.Tries.TryChains.tries_then}
 
 not_still : {P : Type 0} {A : Type 0} (a : Actor P) → a.status ≡ Ready → is_ready a.status ≡ false → A
 not_still a ready n = absurd (let both : true ≡ false = ap is_ready (sym ready) ∙ n in cc)
-
--- giving up leaves the clock that was seen last, and the limits
-undone_keeps : (e new : Core) → new ≡ after_undoing e → (new.clock ≡ e.clock) × (new.holds ≡ e.holds) × (new.max_commits ≡ e.max_commits) × (new.patience ≡ e.patience) × (new.depth ≡ e.depth) × (new.restarts ≡ e.restarts)
-undone_keeps e new is =
-    let Kept : Core → Type 0 = λ c. (c.clock ≡ e.clock) × (c.holds ≡ e.holds) × (c.max_commits ≡ e.max_commits) × (c.patience ≡ e.patience) × (c.depth ≡ e.depth) × (c.restarts ≡ e.restarts) in
-    subst Kept (sym is) (cond_both e.holds e (record (rolled_back e) { stage = Idle; tries = 0 }) Kept (λ h. (refl, refl, refl, refl, refl, refl)) (λ h. (refl, sym h, refl, refl, refl, refl)))
 
 -- ## One call
 
@@ -31,7 +24,9 @@ module _ {P : Type 0} {rules : Rules P} (laws : Obeys rules) {cells : Cells} {r0
       let less : Some Finished ≡ None → IsNoMore rules old last = λ e. absurd (cc) in
       let runs : StillRuns rules cells r0 old cells r0 last = λ first deepest base laid runs. (laid, finish_runs sound ready first deepest base runs) in
       let works = one_act r0 last (finishes (record { none = none; actor = refl; rows = refl })) in
-      assumption (sound, backed, row_same (in_transaction old.engine) old last refl refl sound.kept.row, (rests sound ready).idle, works, finish_tries rules cells r0 old sound ready, runs, others_same old last r0 r0 refl (omega arith) refl (omega arith), still, less)
+      let tries : Tries Extends cells.clock (prior_of r0 old) cells.clock r0 last =
+      stays old.engine.clock cells.clock cells.clock r0 r0 old last refl refl (in_transaction old.engine) sound.kept.row (rests sound ready).nothing refl (rests sound ready).nothing refl (λ e. absurd (cc)) (λ e. absurd (cc)) in
+      assumption (sound, backed, row_same (in_transaction old.engine) old last refl refl sound.kept.row, (rests sound ready).idle, works, tries, runs, others_same old last r0 r0 refl (omega arith) refl (omega arith), still, less)
 
   -- memory was refused to it
   pub starve_worked : (r1 : Rows) (last : Actor P) → IsSound rules cells r1 last → Starves rules r0 old r1 last → KeepsOthers old r0 last r1 → HasWorked rules cells r0 old r1 last
@@ -42,10 +37,10 @@ module _ {P : Type 0} {rules : Rules P} (laws : Obeys rules) {cells : Cells} {r0
       let still : is_ready old.status ≡ false → (last ≡ old) × (r1 ≡ r0) = not_still old ready in
       let less : ending_of last.status ≡ None → IsNoMore rules old last = λ e. absurd (let z = sym (ap ending_of s.status) ∙ e in cc) in
       let runs = still_at rules cells r0 old cells r1 last old.engine.depth refl (λ first base laid runs. (
-        laid_calls old.engine.depth base cells r0 r1 laid others.more others.ended (counted_after cells.clock cells.clock (prior_of r0 old) r1 last tries laid.counted),
+        laid_on old.engine.depth base cells cells r0 r1 laid (counted_after cells.clock cells.clock (prior_of r0 old) r1 last tries laid.counted) refl (bytes_stay laid others.more others.ended) refl (λ even. refl),
         starve_runs laws sound s first base laid runs (rests sound ready).free (rests sound ready).nested others.more others.ended,
       )) in
-      assumption (sound', one_act r1 last (starves s), tries, runs, others, keeps, snapshot_still old.engine last.engine s.engine, s.same, finishes, still, less)
+      assumption (sound', one_act r1 last (starves s), tries, runs, others, keeps, s.same, finishes, still, less)
 
 -- it goes to the engine
 module _ {P : Type 0} {rules : Rules P} (laws : Obeys rules) {cells : Cells} {r0 r : Rows} {old a : Actor P} {call : Call} {what : Next} (m : IsCalling rules cells r0 r old a call what) (r1 : Rows) (last : Actor P)
@@ -96,7 +91,9 @@ module _ {P : Type 0} {rules : Rules P} {cells : Cells} {r : Rows} {a : Actor P}
   pub work_none : IsSound rules cells r a → HasWorked rules cells r a r a
   work_none sound =
       let works : Works rules cells.clock r a r a = (0, (refl, refl)) in
-      let tries : is_ready a.status ≡ true → Tries Extends cells.clock (prior_of r a) cells.clock r a = λ w. tries_still rules cells r a sound (ready_of a.status w) in
+      let tries : is_ready a.status ≡ true → Tries Extends cells.clock (prior_of r a) cells.clock r a = λ w.
+      (let ready = ready_of a.status w in
+      stays a.engine.clock cells.clock cells.clock r r a a refl refl (in_transaction a.engine) sound.kept.row (rests sound ready).nothing refl (rests sound ready).nothing refl (still_going ready) (still_going ready)) in
       let finishes : is_ready a.status ≡ true → ending_of a.status ≡ Some Finished → rules.next_call a.run.player ≡ None = λ w. still_going (ready_of a.status w) in
       assumption (sound, works, tries, finishes, others_same a a r r refl (omega arith) refl (omega arith), same_less rules a)
 

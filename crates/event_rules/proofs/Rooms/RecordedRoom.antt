@@ -1,52 +1,41 @@
 -- Once an answer is recorded there is room for what comes, and for what is left.
 use Rattle.std.proofs.Common.{inl, inr, if◌then◌else◌, suc, ℕ, ◌≡◌, ◌+◌, ◌<◌, ◌≤◌, Bool, true, false, [], ◌∷◌, List, drop, length, Option, None, Some, refl, sym, ap, subst, ◌∙◌, arith}
-use Rattle.event_rules.proofs.Common.{Actor, Answer, AsksAs, Attempt, BeganIn, Begins, Call, Core, Current, End, Ended, HasPoints, HasRow, IsActing, IsAnswered, IsPromised, IsRestart, KeepsPlaces, MayRun, MayTakeIn, NestsAs, NestsBy, NestsReady, NoCancel, OpensBy, Outside, Ran, Ready, Records, RenewsAs, Replied, Reply, Restarted, Rows, Rules, Savepoint, Stand, Status, Waits, Within, active_of, again_of, begun_in, begun_shut, cancels_in, count_undone, counted, cut_back, cut_told, earlier, ends_in, in_transaction, is_held, length-append, none-some, none_begun, open_by, open_calls, open_in, opened_by, opens_most, outside, pending_of, points_in, promised, same_Some, stage_of, stage_open, stage_out, stand_of, status_after, told_in, told_on, total, within}
-use Rattle.tx_attempts.proofs.KeptRecords.{before_short}
-use Rattle.tx_attempts.specs.declared.attempt.Again.{Again}
-use Rattle.event_rules.proofs.Rooms.ActionRoom.{none_acting}
-use Rattle.event_rules.proofs.Rooms.RestartRoom.{began_after, began_back}
+use Rattle.event_rules.proofs.Common.{Actor, Answer, AsksAs, Attempt, BeganIn, Begins, Call, Core, Current, End, Ended, HasPoints, HasRow, IsActing, IsAnswered, IsPromised, IsRestart, KeepsPlaces, MayRun, MayTakeIn, NestsAs, NestsBy, NestsReady, NoCancel, OpensBy, Outside, Ran, Ready, Records, RenewsAs, Replied, Reply, Restarted, Rows, Rules, Savepoint, Stage, Stand, Status, Waits, Within, active_of, again_of, begun_in, begun_shut, cancels_in, count_undone, counted, cut_back, cut_told, earlier, ends_in, in_transaction, is_held, length-append, none-some, none_begun, open_by, open_calls, open_in, opened_by, opens_most, outside, pending_of, points_in, promised, same_Some, stage_of, stage_open, stage_out, stand_of, status_after, told_in, told_on, total, within}
+use Rattle.tx_attempts.{proofs.KeptRecords.before_short, specs.declared.attempt.Again.Again}
+use Rattle.tx_runs.specs.Tallies.{begins as begins_at}
+use Rattle.event_rules.{proofs.Rooms.ActionRoom.none_acting, proofs.Rooms.RestartRoom.began_after, proofs.Rooms.RestartRoom.began_back}
 
 -- ## Places that are kept
 
-pub kept_ends : (ran : List Ran) (c c' : Current) (row' : Attempt) → KeepsPlaces ran c c' → open_in (stage_of c') ≡ Some row' → ends_in c' ≡ ends_in c
-kept_ends ran (Within o) (Within o') row' k e = k.0
-kept_ends ran (Begins o) (Within o') row' k e = k.0
-kept_ends ran Outside (Within o') row' k e = absurd k
-kept_ends ran c c' row' k e = absurd (cc)
+kept_places : (ran : List Ran) (c c' : Current) (row' : Attempt) → KeepsPlaces ran c c' → open_in (stage_of c') ≡ Some row' → (ends_in c' ≡ ends_in c) × (((row : Attempt) → open_in (stage_of c) ≡ Some row → told_in row ≡ length ran) → cancels_in c' ≡ cancels_in c)
+kept_places ran (Within o) (Within o') row' k e = (k.0, λ all. k.1 (all o.row refl))
+kept_places ran (Begins o) (Within o') row' k e = (k.0, λ all. k.1)
+kept_places ran Outside (Within o') row' k e = absurd k
+kept_places ran c c' row' k e = absurd (cc)
 
-pub kept_cancels : (ran : List Ran) (c c' : Current) (row' : Attempt) → KeepsPlaces ran c c' → open_in (stage_of c') ≡ Some row' → ((row : Attempt) → open_in (stage_of c) ≡ Some row → told_in row ≡ length ran) → cancels_in c' ≡ cancels_in c
-kept_cancels ran (Within o) (Within o') row' k e all = k.1 (all o.row refl)
-kept_cancels ran (Begins o) (Within o') row' k e all = k.1
-kept_cancels ran Outside (Within o') row' k e all = absurd k
-kept_cancels ran c c' row' k e all = absurd (cc)
+-- how many calls the attempt has places for, and how many inner blocks are open
+abbrev room_in : Stage → ℕ
+room_in outside = 0
+room_in (begins_at row) = row.calls.room
+room_in (within row points) = row.calls.room
+
+abbrev long_in : Stage → ℕ
+long_in s = length (points_in s)
 
 -- there is a place for where the blocks of the calls to come begin
 nests_now : (ran : List Ran) (call : Call) (reply : Replied) (s : Stand) (c c' : Current) (row' : Attempt) (points : List Savepoint) → KeepsPlaces ran c c' → NestsBy call c → ((row : Attempt) → open_in (stage_of c) ≡ Some row → 0 < row.calls.room)
     → stage_of c' ≡ within row' points → OpensBy (stage_of c) call (Reply reply) s row' points → NestsReady c'
 nests_now ran call reply s (Within o) (Within o') row' points k nests place is (inl y) =
-    let row : o.row ≡ y.0 = cc in
-    let at : o.points ≡ y.1 = cc in
-    let now : o'.row ≡ row' = cc in
-    let now_at : o'.points ≡ points = cc in
-    let some = place o.row refl in
-    let room = ap (λ (x : Attempt). x.calls.room) (now ∙ y.3) in
-    let same = ap (λ (x : Attempt). x.calls.room) row in
-    let long = ap (length {A = Savepoint}) (now_at ∙ y.4) in
-    let before = ap (length {A = Savepoint}) at in
+    let room = ap room_in is ∙ ap (λ (x : Attempt). x.calls.room) y.3 in
+    let long = ap long_in is ∙ ap (length {A = Savepoint}) y.4 in
     let most = opens_most (record { kept = suc (length y.0.calls.list); ran = length y.0.ran }) y.1 (record { call = call; reply = reply }) in
-    let deep = k.2 in
-    omega arith
+    omega (arith, place o.row refl, k.2, ap room_in y.2, ap long_in y.2)
 nests_now ran call reply s (Within o) (Within o') row' points k nests place is (inr y) = absurd (let e = y.1 in cc)
 nests_now ran call reply s (Begins o) (Within o') row' points k nests place is (inl y) = absurd (let e = y.2 in cc)
 nests_now ran call reply s (Begins o) (Within o') row' points k nests place is (inr y) =
-    let row : o.row ≡ y.0 = cc in
-    let now : o'.row ≡ row' = cc in
-    let now_at : o'.points ≡ points = cc in
-    let room = ap (λ (x : Attempt). x.calls.room) (now ∙ y.2) in
-    let same = ap (λ (x : Attempt). x.calls.room) row in
-    let long = ap (length {A = Savepoint}) (now_at ∙ y.3) in
-    let deep = k.2 in
-    omega arith
+    let room = ap room_in is ∙ ap (λ (x : Attempt). x.calls.room) y.2 in
+    let long = ap long_in is ∙ ap (length {A = Savepoint}) y.3 in
+    omega (arith, k.2, ap room_in y.1)
 nests_now ran call reply s Outside (Within o') row' points k nests place is x = absurd k
 nests_now ran call reply s c Outside row' points k nests place is x = tt
 nests_now ran call reply s c (Begins o') row' points k nests place is x = tt
@@ -54,15 +43,7 @@ nests_now ran call reply s c (Begins o') row' points k nests place is x = tt
 -- also where the innermost one goes back
 nests_back : (ran : List Ran) (call : Call) (old row' : Attempt) (points : List Savepoint) (c c' : Current) → KeepsPlaces ran c c' → NestsBy call c → 0 < old.calls.room → row'.calls.room ≡ 0 → stage_of c ≡ within old points → stage_of c' ≡ within row' points → NestsReady c'
 nests_back ran call old row' points (Within o) (Within o') k nests some none is now =
-    let row : o.row ≡ old = cc in
-    let at : o.points ≡ points = cc in
-    let row_now : o'.row ≡ row' = cc in
-    let at_now : o'.points ≡ points = cc in
-    let room = ap (λ (x : Attempt). x.calls.room) row in
-    let room_now = ap (λ (x : Attempt). x.calls.room) row_now in
-    let long = ap (length {A = Savepoint}) (at_now ∙ sym at) in
-    let deep = k.2 in
-    omega arith
+    omega (arith, k.2, ap room_in is, ap long_in is, ap room_in now, ap long_in now)
 nests_back ran call old row' points c Outside k nests some none is now = tt
 nests_back ran call old row' points c (Begins o') k nests some none is now = tt
 nests_back ran call old row' points c c' k nests some none is now = absurd (cc)
@@ -117,7 +98,7 @@ module _ {P : Type 0} (rules : Rules P) (r r' : Rows) (a last : Actor P) (call :
   open_acting : Records rules r r' a last call answer → in_transaction a.engine ≡ true → (row : Attempt) → active_of last ≡ Some row → told_in row ≡ length last.engine.actions.ran → total last.engine.actions ≤ ends_in last.run.current → row.calls.room ≤ promised a.engine
       → length row.restarts ≤ last.engine.restarted → NestsReady last.run.current → BeganIn (stage_of last.run.current) → pending_of last ≡ None → last.status ≡ Ready → IsActing last
   open_acting t o row here told places promises few nests began nothing ready =
-      let ends = kept_ends a.engine.actions.ran a.run.current last.run.current row k here in
+      let kept = kept_places a.engine.actions.ran a.run.current last.run.current row k here in
       let idle = no_call last _ last.status t.takes.status in
       record {
         all = λ x e. subst (λ (y : Attempt). told_in y ≡ length last.engine.actions.ran) (same_Some _ _ (sym here ∙ e)) told;
@@ -128,7 +109,8 @@ module _ {P : Type 0} (rules : Rules P) (r r' : Rows) (a last : Actor P) (call :
         room = λ held some.
             (let held_then : is_held a.engine ≡ true = ap is_held (sym engine) ∙ held in
             let both = m.room held_then (subst (λ (c : Core). 0 < c.room) engine some) in
-            let cancels = kept_cancels a.engine.actions.ran a.run.current last.run.current row k here (m.still held_then) in
+            let cancels = kept.1 (m.still held_then) in
+            let ends = kept.0 in
             let same : counted last.engine + last.engine.room ≡ counted a.engine + a.engine.room = ap (λ (c : Core). counted c + c.room) engine in
             ((let x = both.0 in omega arith), (let x = both.1 in omega arith)));
         backed = subst (IsPromised last) (sym ready) (λ x e. (let n = ap (λ (y : Attempt). y.calls.room) (same_Some _ _ (sym here ∙ e)) in let p = ap promised engine in omega arith));
@@ -150,9 +132,6 @@ module _ {P : Type 0} (rules : Rules P) (r r' : Rows) (a last : Actor P) (call :
       same_due : a.engine.actions.ran ≡ due
       same_due = ap (λ (c : Core). c.actions.ran) (sym engine)
 
-      counts : a.engine.restarted ≡ last.engine.restarted
-      counts = ap (λ (c : Core). c.restarted) (sym engine)
-
       -- its innermost block has gone back
       back_acting : in_transaction a.engine ≡ true → (row old : Attempt) (points : List Savepoint) → IsRestart answer → last.status ≡ Ready → stage_of a.run.current ≡ within old points → stage_of last.run.current ≡ within row points
           → row ≡ cut_back points last.engine.arena due old → IsActing last
@@ -166,9 +145,9 @@ module _ {P : Type 0} (rules : Rules P) (r r' : Rows) (a last : Actor P) (call :
           let none = ap (λ (x : Attempt). x.calls.room) cut in
           let places = m.places old here in
           let total_same = ap (λ (c : Core). total c.actions) engine in
-          let ends = kept_ends a.engine.actions.ran a.run.current last.run.current row k (ap open_in now_at) in
+          let ends = (kept_places a.engine.actions.ran a.run.current last.run.current row k (ap open_in now_at)).0 in
           open_acting t o row (ap open_in now_at) (ap told_in cut ∙ cut_told s old last.engine.arena due began.1.0 told) (omega arith) (omega arith)
-          (let less = m.fewer is old here in let n = counts in omega (arith, ap (λ (x : Attempt). length x.restarts) cut, length-append (earlier s.kept old.restarts) (again_of s old last.engine.arena due ∷ []), before_short s.kept old.restarts))
+          (let less = m.fewer is old here in let n = ap (λ (c : Core). c.restarted) engine in omega (arith, ap (λ (x : Attempt). length x.restarts) cut, length-append (earlier s.kept old.restarts) (again_of s old last.engine.arena due ∷ []), before_short s.kept old.restarts))
           (nests_back a.engine.actions.ran call old row (s ∷ outer) a.run.current last.run.current k m.nests (m.place old here) none was_at now_at)
           (subst BeganIn (sym now_at) (subst (λ (x : Attempt). BeganIn (within x (s ∷ outer))) (sym cut) (began_back s outer last.engine.arena due old began)))
           nothing ready
@@ -181,7 +160,7 @@ module _ {P : Type 0} (rules : Rules P) (r r' : Rows) (a last : Actor P) (call :
           let here_now = stage_open _ now.1 in
           let x = open_by t now.0 now.1 in
           let total_same = ap (λ (c : Core). total c.actions) engine in
-          let ends = kept_ends a.engine.actions.ran a.run.current last.run.current now.0 k now.1 in
+          let ends = (kept_places a.engine.actions.ran a.run.current last.run.current now.0 k now.1).0 in
           elim x.2 [
             | inl reply ↦
                 (let is = reply.1 in
@@ -196,7 +175,7 @@ module _ {P : Type 0} (rules : Rules P) (r r' : Rows) (a last : Actor P) (call :
                       let told : told_in y.0 ≤ length due = subst (λ (l : List Ran). told_in y.0 ≤ length l) same_due (m.first y.0 here) in
                       let few = m.few y.0 here in
                       let same = ap (λ (z : Attempt). length z.restarts) y.3 in
-                      let n = counts in
+                      let n = ap (λ (c : Core). c.restarted) engine in
                       let longer : length y.0.ran ≤ length now.0.ran = omega (arith, ap (λ (z : Attempt). length z.ran) y.3, length-append y.0.ran (drop (told_in y.0) due)) in
                       open_acting t o now.0 now.1 (ap told_in y.3 ∙ told_on y.0 due told) (omega arith) (omega arith) (omega arith) nests
                       (subst BeganIn (sym here_now) (subst (λ (l : List Savepoint). BeganIn (within now.0 l)) (sym y.4) (began_after y.0 now.0 y.1 (record { call = call; reply = reply.0 }) (ap (λ (z : Attempt). z.calls.list) y.3) longer (subst BeganIn y.2 m.began))))

@@ -1,10 +1,8 @@
 -- The room for a block that goes back to its begin, and what the attempt has then.
-use Rattle.std.proofs.Common.{◌≡◌, ℕ, suc, ◌≤◌, Bool, true, false, List, [], ◌∷◌, ◌++◌, drop, length, map, Option, None, Some, refl, sym, ap, ◌∙◌, arith}
-use Rattle.event_rules.proofs.Common.{Attempt, BacksIn, BeganBy, BeganIn, BeganWith, Begins, Bytes, CallRecord, Code, Core, Current, Done, MayGoBack, Outside, Ran, Refused, Replied, Savepoint, Within, abort_of, cut_back, due_told, is_begin, is_commit, length-append, length-take, moved_to, open_after, open_calls, open_in, savepoints_after, stage_of, stand_of, told_in, total, within}
+use Rattle.std.proofs.Common.{◌≡◌, ℕ, suc, ◌≤◌, Bool, true, false, List, [], ◌∷◌, ◌++◌, drop, length, map, Option, Some, refl, sym, ap, ◌∙◌, arith}
+use Rattle.event_rules.proofs.Common.{Attempt, BacksIn, BeganBy, BeganIn, BeganWith, Begins, CallRecord, Code, Core, Current, Done, IsBack, MayGoBack, Outside, Ran, Replied, Savepoint, Within, abort_of, cut_back, due_told, is_begin, is_commit, length-take, open_after, open_calls, open_in, renew_room, savepoints_after, stage_of, stand_of, told_in, total, within}
 use Rattle.tx_attempts.specs.Restarts.{open_by}
-use Rattle.run_rules.proofs.CallsAlone.{kept_by}
-use Rattle.run_rules.proofs.OpenCalls.{open_cut, open_snoc}
-use Rattle.event_rules.proofs.Engines.RestartedEngines.{IsBack}
+use Rattle.run_rules.{proofs.CallsAlone.kept_by, proofs.OpenCalls.open_cut, proofs.OpenCalls.open_snoc}
 
 -- ## Before it
 
@@ -16,14 +14,7 @@ began_by row (s ∷ outer) due b told = (let few = due_told s row b.0 in omega a
 pub back_room : (mid new : Core) → IsBack mid new → (c : Current) → ((row : Attempt) → open_in (stage_of c) ≡ Some row → told_in row ≡ length mid.actions.ran) → BeganIn (stage_of c) → BacksIn (length mid.arena) (total mid.actions) c → MayGoBack (stand_of new) c
 back_room mid new b Outside all began backed = tt
 back_room mid new b (Begins o) all began backed = tt
-back_room mid new b (Within o) all began backed =
-    let told = all o.row refl in
-    let more = ap (length {A = Ran}) b.ran ∙ length-append mid.actions.ran b.more in
-    record {
-      told = omega arith;
-      began = began_by o.row o.points (length new.actions.ran) began.1 (omega arith);
-      backed = record { room = backed.room; has = backed.has; records = backed.records; arena = (let l = backed.arena in let same = b.arena in omega arith); undone = (let l = backed.undone in let most = b.most in omega arith) };
-    }
+back_room mid new b (Within o) all began backed = (let told = all o.row refl in renew_room b o told (began_by o.row o.points (length mid.actions.ran) began.1 (omega arith)) backed)
 
 -- ## Where its blocks began
 
@@ -38,19 +29,10 @@ began_drop told (s ∷ outer) b = began_more s.ran told outer b.0 b.1
 -- after one call more
 began_by_kind : (told now : ℕ) (new : Savepoint) → new.ran ≡ told → told ≤ now → (begin commit : Bool) (abort : Option Bool) (points : List Savepoint) (r : Replied) → BeganWith told points → BeganWith now (open_by begin commit abort new points r)
 began_by_kind told now new is l true commit abort points (Code n) b = (omega arith, began_more told new.ran points (omega arith) b)
-began_by_kind told now new is l true commit abort points Done b = began_more told now points l b
-began_by_kind told now new is l true commit abort points (Bytes v) b = began_more told now points l b
-began_by_kind told now new is l true commit abort points (Refused f) b = began_more told now points l b
 began_by_kind told now new is l false true abort points Done b = began_more told now (drop 1 points) l (began_drop told points b)
-began_by_kind told now new is l false true abort points (Code n) b = began_more told now points l b
-began_by_kind told now new is l false true abort points (Bytes v) b = began_more told now points l b
-began_by_kind told now new is l false true abort points (Refused f) b = began_more told now points l b
 began_by_kind told now new is l false false (Some true) points (Code n) b = tt
 began_by_kind told now new is l false false (Some false) points (Code n) b = began_more told now (drop 1 points) l (began_drop told points b)
-began_by_kind told now new is l false false (Some outer) points Done b = began_more told now points l b
-began_by_kind told now new is l false false (Some outer) points (Bytes v) b = began_more told now points l b
-began_by_kind told now new is l false false (Some outer) points (Refused f) b = began_more told now points l b
-began_by_kind told now new is l false false None points r b = began_more told now points l b
+began_by_kind told now new is l begin commit abort points r b = began_more told now points l b
 
 pub began_after : (row now : Attempt) (points : List Savepoint) (x : CallRecord) → now.calls.list ≡ row.calls.list ++ x ∷ [] → length row.ran ≤ length now.ran → BeganIn (within row points) → BeganIn (within now (savepoints_after points row x))
 began_after row now points x calls l b = (
@@ -65,8 +47,3 @@ began_back s outer arena due row b = (
   sym (open_cut row.calls.list s.kept (map (λ (q : Savepoint). q.kept) outer) (sym b.0)),
   ((let few = b.1.0 in let long = length-take s.ran row.ran in omega arith), b.1.1),
 )
-
--- and where the attempt stands is nothing to them
-pub began_moved : (at : ℕ) (c : Current) → BeganIn (stage_of c) → BeganIn (stage_of (moved_to at c))
-began_moved at Outside b = tt
-began_moved at c b = b

@@ -1,14 +1,11 @@
 -- An actor's run, once an answer is recorded.
 use Rattle.std.proofs.Common.{◌≡◌, ℕ, ◌/◌, ◌%◌, ◌<◌, ◌≤◌, Bool, true, false, List, [], ◌∷◌, ◌++◌, Option, None, Some, refl, sym, true≢false, ap, subst, ◌∙◌, arith, inl, inr}
-use Rattle.event_rules.proofs.Common.{Actions, Actor, Agrees, Answers, Attempt, Between, Call, Cells, Core, End, GaveUp, IsBeforeTry, IsInTry, IsMadeAlone, IsMemory, IsOpenTry, IsRun, IsRunOf, IsTied, IsTryAt, NoMemory, Obeys, Ran, ReadsFrom, Replied, Reply, Restarted, Rows, Rules, RunsFrom, Savepoint, State, TellsRoom, active_of, after, after_try, alone_whole, append-nil, before_same, breaks_of, bytes_at, bytes_of, cut_back, ending_of, in_transaction, is_cut, is_open, none-some, of_thread, of_thread_own, open_in, opened, pending_of, ran_on, reply as plainly, reply_cases, run_after, run_with, savepoints_after, stage_of, stands_for, state_then, taken_at, telling, told_again, told_nth, told_player, told_stage, undone, with_call, within, words_at}
-use Rattle.run_rules.proofs.TriesBack.{back_on}
-use Rattle.run_rules.proofs.TriesHeld.{enters_on, held_on}
-use Rattle.run_rules.proofs.TriesReply.{replies_on}
-use Rattle.event_rules.proofs.Commits.SeenMemories.{HasSeen, memory_at, same_at}
-use Rattle.event_rules.proofs.Engines.Intakes.{HasAnswered, half_same}
-use Rattle.event_rules.proofs.Tries.OpenTries.{closes_over, made_over, open_over, reply_over, stands_over, stays_over, stops_over}
-use Rattle.event_rules.proofs.Engines.HeldCalls.{HasHeld, stands_actions}
-use Rattle.world_rules.specs.PlayerRooms.{ComesTo}
+use Rattle.event_rules.proofs.Common.{Actions, Actor, Agrees, Answers, Attempt, Between, Call, Cells, Core, End, GaveUp, IsBeforeTry, IsInTry, IsMadeAlone, IsMemory, IsOpenTry, IsRun, IsRunOf, IsTied, IsTryAt, NoMemory, Obeys, Ran, ReadsFrom, Replied, Reply, Restarted, Rows, Rules, RunsFrom, Savepoint, State, TellsRoom, active_of, after, after_try, alone_whole, append-nil, before_same, breaks_of, bytes_at, cut_back, ending_of, in_transaction, is_cut, is_open, none-some, of_thread, of_thread_own, open_in, opened, pending_of, plainly, ran_on, reply_cases, run_after, run_with, savepoints_after, stage_of, stands_actions, state_then, taken_at, told_again, told_nth, told_player, told_stage, with_call, within, words_at}
+use Rattle.run_rules.{proofs.TriesBack.back_on, proofs.TriesHeld.enters_on, proofs.TriesHeld.held_on, proofs.TriesReply.replies_on}
+use Rattle.event_rules.proofs.Commits.SeenMemories.{HasSeen, memory_at}
+use Rattle.event_rules.proofs.Engines.Intakes.{HasAnswered, half_same, read_late}
+use Rattle.event_rules.proofs.Engines.HeldMoves.{HasHeld}
+use Rattle.event_rules.proofs.Rooms.FedPlayers.{Comes, fed_by}
 
 pub top : (n : ℕ) → n ≤ n
 top n = omega arith
@@ -70,8 +67,8 @@ module _ {P : Type 0} (rules : Rules P) (first : Between P) (deepest : ℕ) (bas
 
 -- an actor with no open transaction has seen nothing that could change
 pub idle_from : {P : Type 0} {rules : Rules P} {first : Between P} {deepest : ℕ} {base : List ℕ} {cells : Cells} {r : Rows} {a : Actor P} → a.engine.depth ≡ deepest → IsRun rules first deepest base (cells.clock / 2) r a → in_transaction a.engine ≡ false
-    → a.engine.fresh ≡ [] → a.engine.holds ≡ false → a.engine.irrevocable ≡ false → active_of a ≡ None → (TellsRoom rules first.player → (n : ℕ) × ComesTo rules n first.player a.run.player × ((d : ℕ) → 1 < d → d ≤ rules.depth a.run.player → (k : ℕ) × ComesTo rules k first.player (rules.at_block a.run.player d))) → RunsFrom rules first deepest base cells r a
-idle_from depth run shut fresh free revocable none comes = record {
+    → a.engine.fresh ≡ [] → a.engine.holds ≡ false → a.engine.irrevocable ≡ false → active_of a ≡ None → (TellsRoom rules first.player → Comes rules first.player a.run.player) → RunsFrom rules first deepest base cells r a
+idle_from {rules = rules} {first = first} {a = a} depth run shut fresh free revocable none comes = record {
   depth = depth;
   runs = run;
   sees = record {
@@ -81,11 +78,10 @@ idle_from depth run shut fresh free revocable none comes = record {
   held = λ i. absurd (true≢false (sym i ∙ revocable));
   starved = λ e r. shut;
   reads = λ row e. absurd (none-some row (sym none ∙ e));
-  fed = λ told. (let c = comes told in record { moves = c.0; comes = c.1; blocks = c.2; within = λ h. absurd (true≢false (sym h ∙ revocable)); fed = λ e. revocable });
+  fed = λ told. fed_by rules first.player a (comes told) (λ h. absurd (true≢false (sym h ∙ revocable))) (λ e. revocable);
 }
 
-module _ {P : Type 0} {rules : Rules P} (laws : Obeys rules) {first : Between P} {base : List ℕ} {cells cells' : Cells} {r : Rows} (r1 : Rows) {mid : Core} (a last : Actor P) (call : Call)
-    (seen : HasSeen mid.depth base cells cells' r mid a.engine) (run : IsRun rules first mid.depth base (cells.clock / 2) r (record a { engine = mid })) where
+module _ {P : Type 0} {rules : Rules P} (laws : Obeys rules) {first : Between P} {base : List ℕ} (cells : Cells) {r : Rows} (r1 : Rows) {mid : Core} (a last : Actor P) (call : Call) (run : IsRun rules first mid.depth base (cells.clock / 2) r (record a { engine = mid })) where
   abbrev n : ℕ
   n = cells.clock / 2
 
@@ -94,7 +90,7 @@ module _ {P : Type 0} {rules : Rules P} (laws : Obeys rules) {first : Between P}
   position = words_at mid.depth base r.ended (cells.clock / 2)
 
   -- who holds the clock reads where the clock stands
-  pub held_position : IsTied cells' a.engine → a.engine.holds ≡ true → a.engine.clock ≡ mid.clock → cells'.clock / 2 ≡ cells.clock / 2 → (mid.clock ≡ mid.snapshot) × (mid.snapshot % 2 ≡ 0) → mid.snapshot / 2 ≡ cells.clock / 2
+  pub held_position : {cells' : Cells} → IsTied cells' a.engine → a.engine.holds ≡ true → a.engine.clock ≡ mid.clock → cells'.clock / 2 ≡ cells.clock / 2 → (mid.clock ≡ mid.snapshot) × (mid.snapshot % 2 ≡ 0) → mid.snapshot / 2 ≡ cells.clock / 2
   held_position tied holds clock half taken = (let h = tied.holder holds in omega (arith, clock, half, taken.0, taken.1))
 
   module _ (inside : in_transaction mid ≡ true) where
@@ -116,121 +112,9 @@ module _ {P : Type 0} {rules : Rules P} (laws : Obeys rules) {first : Between P}
     abbrev pub told_ran : List Ran → List Ran
     told_ran due = ran_on (run.inside inside).1.ran (run.inside inside).1.restarts due
 
-    -- over the memory of a position that it may have read
-    module _ (k : ℕ) (late : k ≤ cells.clock / 2) (reads : ReadsFrom mid.irrevocable (words_at mid.depth base r.ended (cells.clock / 2)) mid.log (words_at mid.depth base r.ended k)) {memory : List ℕ} (same : bytes_at mid.depth base r.ended k ≡ memory) where
-      abbrev words_k : List ℕ
-      words_k = words_at mid.depth base r.ended k
-
-      bytes : bytes_of words_k ≡ memory
-      bytes = same_at seen k late ∙ same
-
-      pub stands_at : mid.irrevocable ≡ false → stands_for mid (words_at mid.depth base r.ended k) ≡ whole_led memory
-      stands_at revocable = stands_over try_at words_k (memory_at seen k late) reads memory bytes revocable
-
-      pub open_at : mid.irrevocable ≡ false → is_open (whole_led memory) ≡ true
-      open_at revocable = open_over try_at words_k (memory_at seen k late) reads memory bytes revocable inside
-
-      pub made_at : is_open (whole_led memory) ≡ true → Made memory
-      made_at still = made_over try_at words_k (memory_at seen k late) reads memory bytes still
-
-      pub reply_at : (c : Call) → plainly mid.depth (whole_led memory) c ≡ plainly mid.depth (led memory) c
-      reply_at c = reply_over try_at words_k (memory_at seen k late) reads memory bytes c
-
-      pub closes_at : (c : Call) (due : List Ran) → is_open (whole_led memory) ≡ true → due ≡ (after mid.depth (whole_led memory) c).actions.ran → after mid.depth (led memory) c ≡ telling (after mid.depth (whole_led memory) c) (told_ran due)
-      closes_at c due still is = closes_over try_at words_k (memory_at seen k late) reads memory bytes c due still is
-
-      pub stops_at : (due : List Ran) → due ≡ (undone (whole_led memory)).actions.ran → undone (led memory) ≡ telling (undone (whole_led memory)) (told_ran due)
-      stops_at due is = stops_over try_at words_k (memory_at seen k late) reads memory bytes due is
-
-      pub stays_at : led memory ≡ telling (whole_led memory) (told_ran mid.actions.ran)
-      stays_at = stays_over try_at words_k (memory_at seen k late) reads memory bytes
-
     -- an irrevocable one has read the words of the last position
     pub reads_last : mid.irrevocable ≡ true → ReadsFrom mid.irrevocable (words_at mid.depth base r.ended (cells.clock / 2)) mid.log (words_at mid.depth base r.ended (cells.clock / 2))
     reads_last held = subst (λ (i : Bool). ReadsFrom i position mid.log position) (sym held) refl
-
-  -- ## A call of an open transaction has its reply
-
-  -- some memory agrees with what is logged then
-  agreed_now : in_transaction a.engine ≡ true → a.engine.snapshot / 2 ≤ cells.clock / 2 → (m : List ℕ) × IsMemory mid.words m × Agrees m a.engine.log
-  agreed_now o late = (words_at mid.depth base r.ended (a.engine.snapshot / 2), memory_at seen (a.engine.snapshot / 2) late, seen.now o)
-
-  module _ (reply : Replied) (m : HasAnswered rules true cells cells' r r1 mid a last call (Reply reply)) (held : HasHeld mid.depth base cells cells' r (active_of a) mid a.engine call (Answers (Reply reply))) (opened_now : in_transaction last.engine ≡ true) where
-    abbrev inside : in_transaction mid ≡ true
-    inside = m.taken.was_is
-
-    abbrev was_row : Attempt
-    was_row = (run.inside m.taken.was_is).1
-
-    abbrev Tried : Core → Type 0
-    Tried e = IsOpenTry rules mid.depth (words_at mid.depth base r.ended (cells.clock / 2)) (run.inside m.taken.was_is).0 (record (with_call call reply (run.inside m.taken.was_is).1) { ran = ran_on (run.inside m.taken.was_is).1.ran (run.inside m.taken.was_is).1.restarts e.actions.ran })
-        (savepoints_after (run.inside m.taken.was_is).3 (run.inside m.taken.was_is).1 (record { call = call; reply = reply })) (rules.answered a.run.player reply) e
-
-    now : in_transaction a.engine ≡ true
-    now = ap in_transaction (sym m.settled.engine) ∙ opened_now
-
-    late_now : a.engine.snapshot / 2 ≤ cells.clock / 2
-    late_now = (let half = half_same m refl in let reached = m.taken.tied.settled.reached in let late = m.taken.tied.late in omega arith)
-
-    open_try : Tried a.engine × (a.engine.again ≡ false)
-    open_try = elim (reply_cases mid a.engine call reply m.taken.doing m.ends) [
-      | inl g ↦
-          (let revocable : a.engine.irrevocable ≡ false = ap (λ (c : Core). c.irrevocable) g.stays ∙ g.revocable in
-          let more = seen.longer (ap (λ (c : Core). c.restarted) g.stays) now revocable in
-          (replies_on laws (try_at inside) position a.engine call reply m.answered.in_call.asks g refl (run.inside inside).5.anew inside now more.0 more.1 (agreed_now now late_now) (seen.read g.revocable) (seen.up inside), ap (λ (c : Core). c.again) g.stays))
-      | inr (inl g) ↦
-          (let same = held_position m.taken.tied (ap (λ (c : Core). c.holds) g.stays ∙ g.held) (ap (λ (c : Core). c.clock) g.stays) (half_same m refl) g.taken in
-          let agrees : Agrees position mid.log = subst (λ (k : ℕ). Agrees (words_at mid.depth base r.ended k) mid.log) same (seen.logged inside) in
-          (enters_on laws (try_at inside) position a.engine call reply m.answered.in_call.asks g refl (run.inside inside).5.anew inside now (memory_at seen n (top n)) agrees, ap (λ (c : Core). c.again) g.stays))
-      | inr (inr g) ↦
-          (let active = ap open_in (run.inside inside).4 in
-          let bytes = sym (same_at seen n (top n)) in
-          let comes = held.comes g.irrevocable was_row active in
-          let whole = ap (λ (x : List ℕ). alone_whole mid.depth x was_row) bytes in
-          let left = sym (ap (λ (x : Actions). x.ran) (stands_actions a.engine cells'.words)) ∙ ap (λ (s : State). s.actions.ran) comes.0 in (
-            held_on laws (try_at inside) position a.engine call reply m.answered.in_call.asks g m.taken.depth inside (memory_at seen n (top n)) refl
-                (ap is_open (sym whole) ∙ held.still_open g.irrevocable was_row active) (comes.1 ∙ ap (λ (s : State). plainly mid.depth s call) whole) (left ∙ ap (λ (s : State). (after mid.depth s call).actions.ran) whole),
-            ap (λ (c : Core). c.again) g.stays,
-          ))
-    ]
-
-    pub reply_runs : IsRun rules first mid.depth base (cells.clock / 2) r1 last
-    reply_runs =
-        let t = run.inside inside in
-        let x = taken_at m.told t.4 opened_now in
-        let ended : r1.ended ≡ r.ended = x.ended ∙ append-nil r.ended in
-        let row : Attempt = record (with_call call reply t.1) { ran = ran_on t.1.ran t.1.restarts last.engine.actions.ran } in
-        let points : List Savepoint = savepoints_after t.3 t.1 (record { call = call; reply = reply }) in
-        open_run rules first mid.depth base (run_same rules first mid.depth base n r.ended r1.ended a.run.thread last.run.thread ended m.settled.thread run.run) opened_now t.0 row points
-        ((λ i. now_at rules first mid.depth base (ended i) (m.settled.thread i)) ∙ t.2) (told_stage x)
-        (record {
-          open_try = subst (λ (xs : List Attempt). IsOpenTry rules mid.depth (words_at mid.depth base xs (cells.clock / 2)) t.0 row points last.run.player last.engine) (sym ended)
-              (subst (λ (q : P). IsOpenTry rules mid.depth position t.0 row points q last.engine) (sym (told_player x)) (subst Tried (sym m.settled.engine) open_try.0));
-          anew = ap (λ (c : Core). c.again) m.settled.engine ∙ open_try.1;
-        })
-        (told_again x ∙ t.6) (t.7 ∙ sym (told_nth x))
-
-  -- ## Its innermost block goes back to its begin
-
-  module _ (clock word : ℕ) (m : HasAnswered rules true cells cells' r r1 mid a last call (Restarted clock word)) where
-    pub back_runs : IsRun rules first mid.depth base (cells.clock / 2) r1 last
-    back_runs =
-        let inside = m.taken.was_is in
-        let g = m.ends in
-        let t = run.inside inside in
-        let now : in_transaction last.engine ≡ true = ap in_transaction m.settled.engine ∙ m.answered.fits.1 in
-        let x = taken_at m.told t.4 now in
-        let ended : r1.ended ≡ r.ended = x.ended ∙ append-nil r.ended in
-        let late : a.engine.snapshot / 2 ≤ cells.clock / 2 = (let half = half_same m refl in let reached = m.taken.tied.settled.reached in let late = m.taken.tied.late in omega arith) in
-        let back = back_on position a.engine clock word g m.answered.nested.blocks m.taken.tied.settled.even (seen.read g.revocable) (agreed_now m.answered.fits.1 late) (try_at inside) in
-        let Back : Core → P → List Attempt → Type 0 = λ e q xs. IsOpenTry rules mid.depth (words_at mid.depth base xs (cells.clock / 2)) t.0 (cut_back t.3 e.arena e.actions.ran t.1) t.3 q e in
-        open_run rules first mid.depth base (run_same rules first mid.depth base n r.ended r1.ended a.run.thread last.run.thread ended m.settled.thread run.run) now t.0 (cut_back t.3 last.engine.arena last.engine.actions.ran t.1) t.3
-        ((λ i. now_at rules first mid.depth base (ended i) (m.settled.thread i)) ∙ t.2) (told_stage x)
-        (record {
-          open_try = subst (λ (xs : List Attempt). Back last.engine last.run.player xs) (sym ended) (subst (λ (q : P). Back last.engine q r.ended) (sym (told_player x)) (subst (λ (e : Core). Back e (rules.at_block a.run.player (rules.depth a.run.player)) r.ended) (sym m.settled.engine) back));
-          anew = ap (λ (c : Core). c.again) (m.settled.engine ∙ g.stays);
-        })
-        (told_again x ∙ t.6) ((is_cut t.3 last.engine.arena last.engine.actions.ran t.1).same.nth ∙ (t.7 ∙ sym (told_nth x)))
 
   -- ## An attempt ends
 
@@ -245,3 +129,83 @@ module _ {P : Type 0} {rules : Rules P} (laws : Obeys rules) {first : Between P}
         let more = run_with rules mid.depth n n' (bytes_at mid.depth base r.ended) (bytes_at mid.depth base r1.ended) later still (Some first) (of_thread a.run.thread r.ended) t.0 block.start over run.run t.2 block.begins try in
         let rows : of_thread last.run.thread r1.ended ≡ of_thread a.run.thread r.ended ++ over ∷ [] = (λ i. of_thread (thread i) (ended i)) ∙ of_thread_own a.run.thread r.ended over mine in
         (subst (IsRunOf rules mid.depth n' (bytes_at mid.depth base r1.ended) (Some first)) (sym rows) more.0, ap (run_after rules mid.depth (bytes_at mid.depth base r1.ended) (Some first)) rows ∙ more.1)
+
+  -- ## A call of an open transaction is answered, and it stays open
+
+  module _ {cells' : Cells} (seen : HasSeen mid.depth base cells cells' r mid a.engine) where
+    -- some memory agrees with what is logged then
+    agreed_now : in_transaction a.engine ≡ true → a.engine.snapshot / 2 ≤ cells.clock / 2 → (m : List ℕ) × IsMemory mid.words m × Agrees m a.engine.log
+    agreed_now o late = (words_at mid.depth base r.ended (a.engine.snapshot / 2), memory_at seen (a.engine.snapshot / 2) late, seen.now o)
+
+    module _ (reply : Replied) (m : HasAnswered rules true cells cells' r r1 mid a last call (Reply reply)) (held : HasHeld mid.depth base cells cells' r (active_of a) mid a.engine call (Answers (Reply reply))) (opened_now : in_transaction last.engine ≡ true) where
+      abbrev inside : in_transaction mid ≡ true
+      inside = m.taken.was_is
+
+      abbrev was_row : Attempt
+      was_row = (run.inside m.taken.was_is).1
+
+      abbrev Tried : Core → Type 0
+      Tried e = IsOpenTry rules mid.depth (words_at mid.depth base r.ended (cells.clock / 2)) (run.inside m.taken.was_is).0 (record (with_call call reply (run.inside m.taken.was_is).1) { ran = ran_on (run.inside m.taken.was_is).1.ran (run.inside m.taken.was_is).1.restarts e.actions.ran })
+          (savepoints_after (run.inside m.taken.was_is).3 (run.inside m.taken.was_is).1 (record { call = call; reply = reply })) (rules.answered a.run.player reply) e
+
+      now : in_transaction a.engine ≡ true
+      now = ap in_transaction (sym m.settled.engine) ∙ opened_now
+
+      open_try : Tried a.engine × (a.engine.again ≡ false)
+      open_try = elim (reply_cases mid a.engine call reply m.taken.doing m.ends) [
+        | inl g ↦
+            (let revocable : a.engine.irrevocable ≡ false = ap (λ (c : Core). c.irrevocable) g.stays ∙ g.revocable in
+            let more = seen.longer (ap (λ (c : Core). c.restarted) g.stays) now revocable in
+            (replies_on laws (try_at inside) position a.engine call reply m.answered.in_call.asks g refl (run.inside inside).5.anew inside now more.0 more.1 (agreed_now now (read_late m refl)) (seen.read g.revocable) (seen.up inside), ap (λ (c : Core). c.again) g.stays))
+        | inr (inl g) ↦
+            (let same = held_position m.taken.tied (ap (λ (c : Core). c.holds) g.stays ∙ g.held) (ap (λ (c : Core). c.clock) g.stays) (half_same m refl) g.taken in
+            let agrees : Agrees position mid.log = subst (λ (k : ℕ). Agrees (words_at mid.depth base r.ended k) mid.log) same (seen.logged inside) in
+            (enters_on laws (try_at inside) position a.engine call reply m.answered.in_call.asks g refl (run.inside inside).5.anew inside now (memory_at seen n (top n)) agrees, ap (λ (c : Core). c.again) g.stays))
+        | inr (inr g) ↦
+            (let active = ap open_in (run.inside inside).4 in
+            let bytes = sym (seen.laid.memories.same n (top n)) in
+            let comes = held.comes g.irrevocable was_row active in
+            let whole = ap (λ (x : List ℕ). alone_whole mid.depth x was_row) bytes in
+            let left = sym (ap (λ (x : Actions). x.ran) (stands_actions a.engine cells'.words)) ∙ ap (λ (s : State). s.actions.ran) comes.0 in (
+              held_on laws (try_at inside) position a.engine call reply m.answered.in_call.asks g m.taken.depth inside (memory_at seen n (top n)) refl
+                  (ap is_open (sym whole) ∙ held.still_open g.irrevocable was_row active) (comes.1 ∙ ap (λ (s : State). plainly mid.depth s call) whole) (left ∙ ap (λ (s : State). (after mid.depth s call).actions.ran) whole),
+              ap (λ (c : Core). c.again) g.stays,
+            ))
+      ]
+
+      pub reply_runs : IsRun rules first mid.depth base (cells.clock / 2) r1 last
+      reply_runs =
+          let t = run.inside inside in
+          let x = taken_at m.told t.4 opened_now in
+          let ended : r1.ended ≡ r.ended = x.ended ∙ append-nil r.ended in
+          let row : Attempt = record (with_call call reply t.1) { ran = ran_on t.1.ran t.1.restarts last.engine.actions.ran } in
+          let points : List Savepoint = savepoints_after t.3 t.1 (record { call = call; reply = reply }) in
+          open_run rules first mid.depth base (run_same rules first mid.depth base n r.ended r1.ended a.run.thread last.run.thread ended m.settled.thread run.run) opened_now t.0 row points
+          ((λ i. now_at rules first mid.depth base (ended i) (m.settled.thread i)) ∙ t.2) (told_stage x)
+          (record {
+            open_try = subst (λ (xs : List Attempt). IsOpenTry rules mid.depth (words_at mid.depth base xs (cells.clock / 2)) t.0 row points last.run.player last.engine) (sym ended)
+                (subst (λ (q : P). IsOpenTry rules mid.depth position t.0 row points q last.engine) (sym (told_player x)) (subst Tried (sym m.settled.engine) open_try.0));
+            anew = ap (λ (c : Core). c.again) m.settled.engine ∙ open_try.1;
+          })
+          (told_again x ∙ t.6) (t.7 ∙ sym (told_nth x))
+
+    -- ### Its innermost block goes back to its begin
+
+    module _ (clock word : ℕ) (m : HasAnswered rules true cells cells' r r1 mid a last call (Restarted clock word)) where
+      pub back_runs : IsRun rules first mid.depth base (cells.clock / 2) r1 last
+      back_runs =
+          let inside = m.taken.was_is in
+          let g = m.ends in
+          let t = run.inside inside in
+          let now : in_transaction last.engine ≡ true = ap in_transaction m.settled.engine ∙ m.answered.fits.1 in
+          let x = taken_at m.told t.4 now in
+          let ended : r1.ended ≡ r.ended = x.ended ∙ append-nil r.ended in
+          let back = back_on position a.engine clock word g m.answered.nested.blocks m.taken.tied.settled.even (seen.read g.revocable) (agreed_now m.answered.fits.1 (read_late m refl)) (try_at inside) in
+          let Back : Core → P → List Attempt → Type 0 = λ e q xs. IsOpenTry rules mid.depth (words_at mid.depth base xs (cells.clock / 2)) t.0 (cut_back t.3 e.arena e.actions.ran t.1) t.3 q e in
+          open_run rules first mid.depth base (run_same rules first mid.depth base n r.ended r1.ended a.run.thread last.run.thread ended m.settled.thread run.run) now t.0 (cut_back t.3 last.engine.arena last.engine.actions.ran t.1) t.3
+          ((λ i. now_at rules first mid.depth base (ended i) (m.settled.thread i)) ∙ t.2) (told_stage x)
+          (record {
+            open_try = subst (λ (xs : List Attempt). Back last.engine last.run.player xs) (sym ended) (subst (λ (q : P). Back last.engine q r.ended) (sym (told_player x)) (subst (λ (e : Core). Back e (rules.at_block a.run.player (rules.depth a.run.player)) r.ended) (sym m.settled.engine) back));
+            anew = ap (λ (c : Core). c.again) (m.settled.engine ∙ g.stays);
+          })
+          (told_again x ∙ t.6) ((is_cut t.3 last.engine.arena last.engine.actions.ran t.1).same.nth ∙ (t.7 ∙ sym (told_nth x)))

@@ -1,11 +1,11 @@
 -- An actor's run between two tries: calls outside a transaction, and begins.
-use Rattle.std.proofs.Common.{◌≡◌, ◌⊎◌, ℕ, ◌/◌, ◌≤◌, Bool, true, false, List, [], ◌++◌, None, Some, refl, sym, true≢false, ap, subst, ◌∙◌, arith, is_some, inl, inr}
-use Rattle.event_rules.proofs.Common.{Actor, Agrees, Answer, Attempt, Begin, Between, Busy, Call, Cells, Committed, Conflict, ConflictsIn, Core, Enters, Full, IsBeforeTry, IsLost, IsMemory, IsOpenTry, IsRun, Obeys, Outcome, Props, Ready, Replied, Replies, Reply, Restarted, Rows, Rules, Stage, Stand, TakesTo, Tally, active_of, alone_whole, append-nil, backed, before_past, before_same, begin_call, begin_may, begun_in, blocks_after, bytes_at, ending_of, in_transaction, inside_all, is_inside, is_tried, may_go, none-some, open_in, over_as, plain_reply, reply_cases, same_Some, sent_back, sent_same, served_outside, stage_of, stand_of, stands_for, tally_of, tried, within, words_at}
+use Rattle.std.proofs.Common.{◌≡◌, ◌⊎◌, ℕ, ◌/◌, ◌≤◌, Bool, true, false, List, [], ◌++◌, None, Some, refl, sym, true≢false, ap, subst, ◌∙◌, arith, is_some, inl, inr, nat_lt}
+use Rattle.event_rules.proofs.Common.{Actor, Agrees, Answer, Attempt, Begin, Between, Busy, Call, Cells, Committed, Conflict, ConflictsIn, Core, Enters, Full, IsBeforeTry, IsLost, IsOpenTry, IsRun, Obeys, Outcome, Props, Ready, Replied, Replies, Reply, Restarted, Rows, Rules, Stage, Stand, TakesTo, Tally, active_of, alone_whole, append-nil, backed, before_past, before_same, begin_call, begin_entered, begun_in, bytes_at, ending_of, in_transaction, is_tried, may_go, none-some, open_in, over_as, plain_reply, reply_cases, same_Some, sent_back, sent_same, served_may, served_outside, stage_of, stand_of, stands_for, tally_of, tried, within, words_at}
 use Rattle.tx_attempts.specs.declared.attempt.Outcome.TheVariants as outcomes
 use Rattle.event_rules.proofs.Runs.Answers.{RunOf, gave_run, now_at, open_run, run_same, shut_run, top}
 use Rattle.event_rules.proofs.Tries.TryEnds.{IsBegun, RepliedOutside, begun_or_not, next_try}
-use Rattle.event_rules.proofs.Commits.SeenMemories.{HasSeen, memory_at, same_at}
-use Rattle.event_rules.proofs.Engines.Intakes.{HasAnswered, half_same, still_going}
+use Rattle.event_rules.proofs.Commits.SeenMemories.{HasSeen, memory_at}
+use Rattle.event_rules.proofs.Engines.Intakes.{HasAnswered, half_same, read_late, still_going}
 use Rattle.run_rules.proofs.TriesBegin.{IsToOpen, begin_leaves, begins_held, begins_on}
 
 -- where no attempt was open none is over
@@ -52,34 +52,20 @@ module _ {P : Type 0} {rules : Rules P} (laws : Obeys rules) {first : Between P}
 
     -- ## An accepted begin
 
-    late : a.engine.snapshot / 2 ≤ cells.clock / 2
-    late = (let half = half_same m refl in let reached = m.taken.tied.settled.reached in let late = m.taken.tied.late in omega arith)
-
-    seen_at : IsMemory mid.words (words_at mid.depth base r.ended (a.engine.snapshot / 2))
-    seen_at = memory_at seen (a.engine.snapshot / 2) late
-
     -- it may go, so its attempt is that which its player came to
     module _ (b : IsBegun rules r r1 a last call reply) (props : Props) (room : ℕ) (is : call ≡ Begin props room) where
       now : in_transaction a.engine ≡ true
       now = ap in_transaction (sym m.settled.engine) ∙ b.now
 
-      replies : Replies mid call reply a.engine → Replies mid (Begin props room) reply a.engine
-      replies = subst (λ (c : Call). Replies mid c reply a.engine) is
-
       enters : Enters mid call reply a.engine → Enters mid (Begin props room) reply a.engine
       enters = subst (λ (c : Call). Enters mid c reply a.engine) is
-
-      accepted : may_go [] props ≡ true
-      accepted = elim by_case [
-        | inl g ↦ begin_may mid props room reply (words_at mid.depth base r.ended (a.engine.snapshot / 2)) m.taken.was_is revocable (sym (ap is_inside (replies g).blocks) ∙ now) ((replies g).reply_is _ seen_at (seen.now now))
-        | inr g ↦ begin_may mid props room reply [] m.taken.was_is revocable (sym (inside_all (blocks_after mid (Begin props room) reply)) ∙ (sym (ap (λ (c : Core). is_inside c.blocks) (enters g).stays) ∙ now)) ((enters g).reply_is [])
-      ]
 
       opening : IsToOpen rules (before m.taken.was_is m.answered.status).0 b.row a.run.player mid props room
       opening =
           let k = (before m.taken.was_is m.answered.status).2 in
           let p = k.pending b.row b.pending in
           let same : b.row.props ≡ props = m.answered.in_call.props b.row props room b.pending is in
+          let accepted = served_may (may_go [] props) (nat_lt 0 mid.depth) (begin_entered mid a.engine props room reply (m.taken.doing ∙ ap (λ (c : Call). Some c) is) m.taken.tied.settled m.ends m.taken.was_is revocable now).0 in
           record {
             comes = p.4 (subst (λ (x : Props). may_go [] x ≡ true) (sym same) accepted);
             asks = m.answered.in_call.asks ∙ ap (λ (c : Call). Some c) is;
@@ -106,7 +92,7 @@ module _ {P : Type 0} {rules : Rules P} (laws : Obeys rules) {first : Between P}
           let Try : Core → P → List Attempt → Type 0 = λ e q xs. IsOpenTry rules mid.depth (words_at mid.depth base xs (cells.clock / 2)) t.0 row [] q e in
           let try : Try a.engine (rules.answered a.run.player reply) r.ended × (a.engine.again ≡ false) = elim by_case [
             | inl g ↦
-                (begins_on laws position opening reply a.engine (last.engine.snapshot / 2) began (replies g) (words_at mid.depth base r.ended (a.engine.snapshot / 2), seen_at, seen.now now) now, ap (λ (c : Core). c.again) g.stays)
+                (begins_on laws position opening reply a.engine (last.engine.snapshot / 2) began (subst (λ (c : Call). Replies mid c reply a.engine) is g) (words_at mid.depth base r.ended (a.engine.snapshot / 2), memory_at seen (a.engine.snapshot / 2) (read_late m refl), seen.now now) now, ap (λ (c : Core). c.again) g.stays)
             | inr g ↦ (begins_held laws position opening reply a.engine (last.engine.snapshot / 2) began (enters g) now, ap (λ (c : Core). c.again) g.stays)
           ] in
           open_run rules first mid.depth base (stays x.ended m.settled.thread) b.now t.0 row [] ((λ i. now_at rules first mid.depth base (x.ended i) (m.settled.thread i)) ∙ t.1) b.stage
@@ -127,16 +113,10 @@ module _ {P : Type 0} {rules : Rules P} (laws : Obeys rules) {first : Between P}
           ap (stands_for a.engine) words
           ∙ ((enters g).meets position (memory_at seen (cells.clock / 2) (top (cells.clock / 2))) nothing
           ∙ (begin_leaves laws position opening reply (enters g) now position
-          ∙ (ap (λ (bytes : List ℕ). alone_whole mid.depth bytes b.row) (same_at seen (cells.clock / 2) (top (cells.clock / 2))) ∙ ap (alone_whole mid.depth memory) same)))
+          ∙ (ap (λ (bytes : List ℕ). alone_whole mid.depth bytes b.row) (seen.laid.memories.same (cells.clock / 2) (top (cells.clock / 2))) ∙ ap (alone_whole mid.depth memory) same)))
 
     begin_is : IsBegun rules r r1 a last call reply → (props : Props) × (room : ℕ) × (call ≡ Begin props room)
     begin_is b = begin_call call (sym (m.answered.in_call.begins refl) ∙ ap is_some b.pending)
-
-    -- of no open transaction
-    reply_shut : IsRun rules first mid.depth base (cells.clock / 2) r1 last
-    reply_shut =
-        let x = begun_or_not reply m in
-        elim x.either [ inl b ↦ (let c = begin_is b in begin_runs b c.0 c.1 c.2 x) | inr n ↦ outside_runs x n.shut n.again ]
 
     pub begin_holds : in_transaction last.engine ≡ true → a.engine.irrevocable ≡ true → (row : Attempt) → active_of last ≡ Some row
         → stands_for a.engine cells'.words ≡ alone_whole mid.depth (bytes_at mid.depth base r.ended (cells.clock / 2)) row
@@ -160,7 +140,9 @@ module _ {P : Type 0} {rules : Rules P} (laws : Obeys rules) {first : Between P}
       })
 
   pub shut_runs : (answer : Answer) → HasAnswered rules false cells cells' r r1 mid a last call answer → IsRun rules first mid.depth base (cells.clock / 2) r1 last
-  shut_runs (Reply reply) m = reply_shut reply m
+  shut_runs (Reply reply) m =
+      let x = begun_or_not reply m in
+      elim x.either [ inl b ↦ (let c = begin_is reply m b in begin_runs reply m b c.0 c.1 c.2 x) | inr n ↦ outside_runs reply m x n.shut n.again ]
   shut_runs (Busy clock) m =
       nothing_runs (tally_of a.run) [] m.told.takes refl refl refl refl m.settled.thread (ap (λ (c : Core). c.arena) (m.settled.engine ∙ m.ends.stays)) m.taken.was_is (ap in_transaction m.settled.engine ∙ m.answered.fits.1) m.answered.status
   shut_runs (Conflict clock word) m =

@@ -1,25 +1,22 @@
 -- An actor's run over a call, up to its first step, and over a step.
 use Rattle.event_rules.proofs.Tries.ReadPositions.{still_reads}
-use Rattle.run_rules.proofs.GivenUp.{given_up_as}
-use Rattle.std.proofs.Common.{unwrap_or, ◌≡◌, ℕ, ◌/◌, ◌<◌, ◌≤◌, ◌&&◌, Bool, true, false, not, List, [], ◌∷◌, ◌++◌, ◌+◌, Some, refl, sym, true≢false, ap, subst, ◌∙◌, arith, None, inl, inr}
-use Rattle.event_rules.proofs.Common.{Actor, AreCounted, AreLaid, Attempt, Begin, Between, Call, Cells, Commit, Core, Ended, EndsWithin, HasRow, Idle, IsBeforeTry, IsDeep, IsDone, IsHeld, IsNested, IsOpenTry, IsRun, IsSettled, IsSound, Next, Obeys, PlayerRun, Props, Ready, Rows, Rules, RunsFrom, Sees, Stage, Starves, Status, Stays, Step, StillRuns, Tells, active_of, and_right, append-nil, asked_at, asked_begun, before_led, before_same, begin_here, begins_again, begins_at, begun_in, bytes_at, bytes_stay, came_on, cases_Bool, cond-false, cond-true, ending_as, ending_of, found, handed_is, handed_on, handed_to, in_transaction, irrevocable_room, is_inside, may_begin, may_go, moved_begun, moved_open, moved_stage, not_from_true, open_in, over_as, pending_of, reserved, reserved_more, restarts_left, rolled_back, row_is_of, same_Some, shut_revocable, stage_of, stage_out, stand_of, told, told_active, told_player, with_room, within, words_at}
+use Rattle.run_rules.{proofs.GivenUp.given_up_as, proofs.TriesStep.told_on}
+use Rattle.std.proofs.Common.{unwrap_or, ◌≡◌, ℕ, ◌/◌, ◌<◌, ◌≤◌, ◌&&◌, Bool, true, false, not, List, [], ◌∷◌, ◌++◌, ◌+◌, Some, refl, sym, true≢false, ap, subst, ◌∙◌, arith, inl, inr}
+use Rattle.event_rules.proofs.Common.{Actor, AreCounted, AreLaid, Attempt, Begin, Between, Call, Cells, Commit, Core, Ended, EndsWithin, HasRow, Idle, IsDeep, IsDone, IsFed, IsHeld, IsNested, IsOpenTry, IsRun, IsSound, Next, Obeys, PlayerRun, Props, Ready, Rows, Rules, RunsFrom, Sees, Stage, Starves, Status, Stays, StillRuns, Tells, active_of, and_right, append-nil, asked_at, asked_begun, before_led, before_same, begin_here, begins_again, begun_in, bytes_at, bytes_stay, came_on, cases_Bool, cond-false, cond-true, ending_as, ending_of, found, handed_on, in_transaction, irrevocable_room, is_inside, may_begin, may_go, moved_begun, moved_open, moved_stage, not_from_true, open_in, over_as, reserved, reserved_more, restarts_left, rolled_back, row_is_of, same_Some, shut_revocable, stage_of, stage_out, stand_of, told, told_active, told_player, with_room, within, words_at}
 use Rattle.tx_attempts.specs.declared.attempt.Outcome.TheVariants as outcomes
 use Rattle.tx_runs.specs.declared.ending.End.TheVariants as ends
 use Rattle.event_rules.proofs.Engines.SoundSteps.{IsCalling, asked_row, call_taken, mid, player_same, rests, IsStepping, mid_step, same, step_taken, waits, went}
-use Rattle.event_rules.proofs.Commits.LaidWords.{laid_on, laid_same}
+use Rattle.event_rules.proofs.Commits.LaidWords.{laid_same}
 use Rattle.event_rules.proofs.Runs.Intakes.{runs_recorded}
-use Rattle.event_rules.proofs.Engines.HeldMoves.{call_held, step_held}
-use Rattle.event_rules.proofs.Engines.HeldCalls.{held_same}
+use Rattle.event_rules.proofs.Engines.HeldMoves.{call_held, held_same, step_held}
 use Rattle.event_rules.proofs.Engines.TiedEngines.{limit_same}
 use Rattle.event_rules.proofs.Commits.SeenMemories.{HasSeen, call_seen, step_seen}
-use Rattle.event_rules.proofs.Engines.Intakes.{recorded, now, still_going}
-use Rattle.event_rules.proofs.Rooms.FedPlayers.{HasLeft, answered_left, more_within, none_within, waits_left}
+use Rattle.event_rules.proofs.Engines.Intakes.{now, still_going}
+use Rattle.event_rules.proofs.Rooms.FedPlayers.{comes_still, fed_by, fed_recorded, more_within, none_within}
 use Rattle.event_rules.proofs.Runs.Answers.{RunOf, before_as, idle_from, now_at, open_run, run_on, run_same, top}
 use Rattle.event_rules.proofs.Runs.Endings.{stop_run}
 use Rattle.event_rules.proofs.Runs.Begins.{none_over}
-use Rattle.run_rules.proofs.TriesStep.{told_on}
 use Rattle.std.proofs.Math.Bool.{and-true}
-use Rattle.world_rules.specs.PlayerRooms.{ComesTo}
 
 -- ## How many blocks may be open
 
@@ -41,46 +38,21 @@ module _ {P : Type 0} {rules : Rules P} {cells : Cells} {r0 : Rows} {old : Actor
     held = runs.held;
     starved = λ e. absurd (cc);
     reads = runs.reads;
-    fed = λ true_room. (let x = runs.fed true_room in record { moves = x.moves; comes = x.comes; blocks = x.blocks; within = x.within; fed = λ e. absurd (cc) });
+    fed = λ true_room. (let x = runs.fed true_room in fed_by rules first.player (record old { status = Ended ends.Finished }) ((x.moves, x.comes), x.blocks) x.within (λ e. absurd (cc)));
   }
 
 -- ## A call went to the engine
 
 module _ {P : Type 0} {rules : Rules P} (laws : Obeys rules) {cells : Cells} {r0 r : Rows} {old a : Actor P} {call : Call} {what : Next} (m : IsCalling rules cells r0 r old a call what)
     (first : Between P) (base : List ℕ) (laid : AreLaid old.engine.depth base cells r0) (runs : RunsFrom rules first old.engine.depth base cells r0 old) where
-  came_thread : a.run.thread ≡ old.run.thread
-  came_thread = ap (λ (x : PlayerRun P). x.thread) m.asks.run
-
-  came_again : a.run.again ≡ old.run.again
-  came_again = ap (λ (x : PlayerRun P). x.again) m.asks.run
-
-  came_nth : a.run.nth ≡ old.run.nth
-  came_nth = ap (λ (x : PlayerRun P). x.nth) m.asks.run
-
-  -- the attempt that is to be opened then
-  fresh_pending : (b : Between P) → IsBeforeTry rules old.engine.depth (cells.clock / 2) b old → in_transaction old.engine ≡ false → (row : Attempt) → pending_of a ≡ Some row
-      → (row.began ≤ cells.clock / 2) × (row.arena ≡ old.engine.arena) × (row.calls.list ≡ []) × (row.ran ≡ []) × (may_go [] row.props ≡ true → begins_at rules old.engine.depth b ≡ Some (record { player = a.run.player; arena = old.engine.arena; props = row.props })) × ((mid m).again ≡ b.again)
-      × (row.restarts ≡ [])
-  fresh_pending b k o row e =
-      let f = asked_begun cells.clock old call (stage_of old.run.current) row (rests m.sound m.ready).nothing (sym (ap begun_in m.asks.stage) ∙ e) in
-      let made = f.3 in
-      let asks : rules.next_call old.run.player ≡ Some (Begin f.0 f.1) = ap rules.next_call (sym (player_same m)) ∙ (m.asked.in_call.asks ∙ ap (λ (c : Call). Some c) f.2) in
-      let out = stage_out _ (subst (λ (x : Bool). HasRow x old) o m.sound.kept.row) (rests m.sound m.ready).nothing in
-      let same : f.0 ≡ row.props = ap (λ (x : Attempt). x.props) (sym made) in (
-        omega (arith, ap (λ (x : Attempt). x.began) made),
-        ap (λ (x : Attempt). x.arena) made,
-        ap (λ (x : Attempt). x.calls.list) made,
-        ap (λ (x : Attempt). x.ran) made,
-        λ may. before_led rules laws old.engine.depth k.before ∙ (begin_here rules laws old.engine.depth old.run.player old.engine.arena f.0 f.1 asks (may_begin old.engine.depth old.engine.arena f.0 f.1 m.sound.tied.settled.deep (subst (λ (x : Props). may_go [] x ≡ true) (sym same) may)) ∙ (λ i. Some (record { player = (sym (player_same m)) i; arena = old.engine.arena; props = same i }))),
-        (λ i. begins_again (out i) old.run.again (f.2 i) && not (o i)) ∙ (and-true old.run.again ∙ k.before.again),
-        ap (λ (x : Attempt). x.restarts) made,
-      )
-
   run_came : IsRun rules first old.engine.depth base (cells.clock / 2) r (record a { engine = mid m })
   run_came =
+      let thread = ap (λ (x : PlayerRun P). x.thread) m.asks.run in
+      let again_same = ap (λ (x : PlayerRun P). x.again) m.asks.run in
+      let nth = ap (λ (x : PlayerRun P). x.nth) m.asks.run in
       let room = λ (row : Attempt). reserved row.calls (unwrap_or (irrevocable_room old.engine call) 0 + 1) in
-      run_on rules first old.engine.depth base (record a { engine = mid m }) runs.runs (run_same rules first old.engine.depth base (cells.clock / 2) r0.ended r.ended old.run.thread a.run.thread m.asks.ended came_thread runs.runs.run)
-      (λ i. now_at rules first old.engine.depth base (m.asks.ended i) (came_thread i)) refl came_again came_nth (λ end e. still_going m.ready e)
+      run_on rules first old.engine.depth base (record a { engine = mid m }) runs.runs (run_same rules first old.engine.depth base (cells.clock / 2) r0.ended r.ended old.run.thread a.run.thread m.asks.ended thread runs.runs.run)
+      (λ i. now_at rules first old.engine.depth base (m.asks.ended i) (thread i)) refl again_same nth (λ end e. still_going m.ready e)
       (λ b row points o e t.
       (let again = begins_again (stage_of old.run.current) old.run.again call in
       let Try : P → List Attempt → Type 0 = λ q l. IsOpenTry rules old.engine.depth (words_at old.engine.depth base l (cells.clock / 2)) b (record row { calls = room row }) points q (mid m) in
@@ -95,8 +67,22 @@ module _ {P : Type 0} {rules : Rules P} (laws : Obeys rules) {cells : Cells} {r0
         },
       )))
       (λ b o k. record {
-        before = before_same k.before (player_same m) refl came_again (omega (arith, came_nth));
-        pending = λ row e. fresh_pending b k o row e;
+        before = before_same k.before (player_same m) refl again_same (omega (arith, nth));
+        -- the attempt that is to be opened then
+        pending = λ row e.
+            (let f = asked_begun cells.clock old call (stage_of old.run.current) row (rests m.sound m.ready).nothing (sym (ap begun_in m.asks.stage) ∙ e) in
+            let made = f.3 in
+            let asks : rules.next_call old.run.player ≡ Some (Begin f.0 f.1) = ap rules.next_call (sym (player_same m)) ∙ (m.asked.in_call.asks ∙ ap (λ (c : Call). Some c) f.2) in
+            let out = stage_out _ (subst (λ (x : Bool). HasRow x old) o m.sound.kept.row) (rests m.sound m.ready).nothing in
+            let same : f.0 ≡ row.props = ap (λ (x : Attempt). x.props) (sym made) in (
+              omega (arith, ap (λ (x : Attempt). x.began) made),
+              ap (λ (x : Attempt). x.arena) made,
+              ap (λ (x : Attempt). x.calls.list) made,
+              ap (λ (x : Attempt). x.ran) made,
+              λ may. before_led rules laws old.engine.depth k.before ∙ (begin_here rules laws old.engine.depth old.run.player old.engine.arena f.0 f.1 asks (may_begin old.engine.depth old.engine.arena f.0 f.1 m.sound.tied.settled.deep (subst (λ (x : Props). may_go [] x ≡ true) (sym same) may)) ∙ (λ i. Some (record { player = (sym (player_same m)) i; arena = old.engine.arena; props = same i }))),
+              (λ i. begins_again (out i) old.run.again (f.2 i) && not (o i)) ∙ (and-true old.run.again ∙ k.before.again),
+              ap (λ (x : Attempt). x.restarts) made,
+            ));
       })
 
   seen : HasSeen old.engine.depth base cells cells r (mid m) a.engine
@@ -117,43 +103,24 @@ module _ {P : Type 0} {rules : Rules P} (laws : Obeys rules) {cells : Cells} {r0
           held = x.held;
           starved = λ e. absurd (x.fed e);
           reads = still_reads (λ row e. (let w = asked_row m row e in ap (λ (y : Attempt). y.at) w.2 ∙ (runs.reads w.0 w.1 ∙ ap (λ (k : ℕ). k / 2) (sym m.asks.called.stays.snapshot)))) r1 last taken done tells;
-          fed = λ true_room.
-              (let before = runs.fed true_room in
-              let comes = subst (ComesTo rules before.moves first.player) (sym (player_same m)) before.comes in
-              let blocks = subst (λ (q : P). (d : ℕ) → 1 < d → d ≤ rules.depth q → (n : ℕ) × ComesTo rules n first.player (rules.at_block q d)) (sym (player_same m)) before.blocks in
-              let within = λ (h : (mid m).irrevocable ≡ true) (row : Attempt) (e : active_of a ≡ Some row).
-              (let w = asked_row m row e in
-              let more : w.0.calls.room ≤ row.calls.room = (let room = ap (λ (y : Attempt). y.calls.room) w.2 in let least = reserved_more w.0.calls (unwrap_or (irrevocable_room old.engine call) 0 + 1) in omega arith) in
-              more_within rules w.0.calls.room row.calls.room a.run.player more (subst (EndsWithin rules w.0.calls.room) (sym (player_same m)) (before.within h w.0 w.1))) in
-              let shut = shut_revocable old.engine m.sound.tied.settled in
-              let left = recorded (λ x y. HasLeft rules first.player y) taken done tells (waits_left laws first.player true_room before.moves comes blocks within shut) (λ answer is t. answered_left laws first.player true_room before.moves comes blocks within shut answer t) in
-              record { moves = left.moves; comes = left.comes; blocks = left.blocks; within = left.within; fed = λ e. absurd (x.fed e) });
+          fed = λ true_room. fed_recorded laws first.player true_room (fed_came (runs.fed true_room)) (shut_revocable old.engine m.sound.tied.settled) r1 last taken done tells;
         },
       )
+    where
+      -- its player has not moved
+      fed_came : IsFed rules first.player old → IsFed rules first.player (record a { engine = mid m })
+      fed_came before =
+          fed_by rules first.player (record a { engine = mid m }) (comes_still rules first.player a.run.player (player_same m) before) (λ h row e.
+          (let w = asked_row m row e in
+          let room = ap (λ (y : Attempt). y.calls.room) w.2 in
+          let least = reserved_more w.0.calls (unwrap_or (irrevocable_room old.engine call) 0 + 1) in
+          more_within rules w.0.calls.room row.calls.room a.run.player (omega arith) (subst (EndsWithin rules w.0.calls.room) (sym (player_same m)) (before.within h w.0 w.1))))
+          (λ e. still_going (m.asked.status ∙ m.ready) e)
 
 -- ## Memory was refused
 
 module _ {P : Type 0} {rules : Rules P} (laws : Obeys rules) {cells : Cells} {r0 r1 : Rows} {old last : Actor P} (sound : IsSound rules cells r0 old) (s : Starves rules r0 old r1 last)
     (first : Between P) (base : List ℕ) (laid : AreLaid old.engine.depth base cells r0) (runs : RunsFrom rules first old.engine.depth base cells r0 old) (free : old.engine.holds ≡ old.engine.irrevocable) (nested : IsNested rules (in_transaction old.engine) old.run.player) (more : List Attempt) (ended : r1.ended ≡ r0.ended ++ more) where
-  still_seen : HasSeen old.engine.depth base cells cells r0 old.engine old.engine
-  still_seen = record {
-    laid = laid;
-    words = sound.tied.words;
-    long = refl;
-    late = (let reached = sound.tied.settled.reached in let late = sound.tied.late in omega arith);
-    up = λ o. (let l : old.engine.snapshot ≤ old.engine.snapshot = omega arith in l);
-    opens = λ shut o. absurd (true≢false (sym o ∙ shut));
-    unlogged = λ shut. (sound.tied.settled.closed shut).0;
-    logged = runs.sees.logged;
-    still = λ same. runs.sees.logged;
-    now = runs.sees.logged;
-    longer = λ same o e. ([], sym (append-nil old.engine.log));
-    read = sound.tied.settled.reads;
-    loaded = λ f. runs.sees.loaded;
-    even = λ f even. refl;
-    freed = λ f. absurd (true≢false (sym f ∙ sound.tied.settled.unfreed));
-  }
-
   module _ (revocable : old.engine.irrevocable ≡ false) where
     gone : last.engine ≡ record (rolled_back old.engine) { stage = Idle; tries = 0 }
     gone = s.engine ∙ cond-false old.engine.holds _ _ (free ∙ revocable)
@@ -170,9 +137,9 @@ module _ {P : Type 0} {rules : Rules P} (laws : Obeys rules) {cells : Cells} {r0
         let active = ap open_in t.4 in
         let stops = (s.stops revocable).ended ∙ (ap (λ (st : Stage). r0.ended ++ over_as outcomes.NoMemory (stand_of last.engine) st) t.4
         ∙ ap (λ (c : Core). r0.ended ++ record (ending_as outcomes.NoMemory (stand_of last.engine) t.1) { at = c.snapshot / 2 } ∷ []) gone) in
-        (stop_run laws r1 old last Commit still_seen runs.runs (cells.clock / 2) (let l : cells.clock / 2 ≤ cells.clock / 2 = omega arith in l)
+        (stop_run laws r1 old last Commit laid sound.tied.words runs.runs (cells.clock / 2) (let l : cells.clock / 2 ≤ cells.clock / 2 = omega arith in l)
         (bytes_stay laid more ended) o (old.engine.snapshot / 2) outcomes.NoMemory last.engine.actions.ran refl (λ u. absurd (cc)) (λ x y i. (y, i)) s.same.thread (row_is_of (in_transaction old.engine) old t.1 sound.kept.row active) stops
-        t.5.open_try.began still_seen.late (runs.sees.logged o) revocable (given_up_as old.engine last.engine (words_at old.engine.depth base r0.ended (old.engine.snapshot / 2)) (free ∙ revocable) revocable s.engine) (λ f. absurd (cc))).0
+        t.5.open_try.began (let reached = sound.tied.settled.reached in let late = sound.tied.late in omega arith) (runs.sees.logged o) revocable (given_up_as old.engine last.engine (words_at old.engine.depth base r0.ended (old.engine.snapshot / 2)) (free ∙ revocable) revocable s.engine) (λ f. absurd (cc))).0
 
     -- its transaction is rolled back
     rolled_runs : RunsFrom rules first old.engine.depth base cells r1 last
@@ -180,10 +147,7 @@ module _ {P : Type 0} {rules : Rules P} (laws : Obeys rules) {cells : Cells} {r0
         idle_from (ap (λ (c : Core). c.depth) gone)
         (record { run = starve_run (in_transaction old.engine) refl; inside = λ o. absurd (true≢false (sym o ∙ closed)); between = λ o gave_up starved. absurd (starved (ap ending_of s.status)) })
         closed (ap (λ (c : Core). c.fresh) gone) (ap (λ (c : Core). c.holds) gone) (ap (λ (c : Core). c.irrevocable) gone) (told_active (s.stops revocable))
-        (λ told.
-        (let before = runs.fed told in
-        let same = sym (told_player (s.stops revocable)) in
-        (before.moves, subst (ComesTo rules before.moves first.player) same before.comes, subst (λ (q : P). (d : ℕ) → 1 < d → d ≤ rules.depth q → (n : ℕ) × ComesTo rules n first.player (rules.at_block q d)) same before.blocks)))
+        (λ told. comes_still rules first.player last.run.player (told_player (s.stops revocable)) (runs.fed told))
 
   module _ (irrevocable : old.engine.irrevocable ≡ true) where
     kept : last.engine ≡ old.engine
@@ -240,42 +204,21 @@ module _ {P : Type 0} {rules : Rules P} (laws : Obeys rules) {cells : Cells} {r0
   pub starve_runs : RunsFrom rules first old.engine.depth base cells r1 last
   starve_runs = elim (cases_Bool old.engine.irrevocable) [ inl i ↦ held_runs i | inr r ↦ rolled_runs r ]
 
--- ## The words
-
-pub laid_calls : (deepest : ℕ) (base : List ℕ) (cells : Cells) (r0 r1 : Rows) → AreLaid deepest base cells r0 → (more : List Attempt) → r1.ended ≡ r0.ended ++ more → AreCounted cells.clock r1.ended → AreLaid deepest base cells r1
-laid_calls deepest base cells r0 r1 laid more ended counted =
-    laid_on deepest base cells cells r0 r1 laid counted refl refl (bytes_stay laid more ended) (λ even. refl)
-
 -- ## A step
-
-module _ {P : Type 0} (rules : Rules P) (laws : Obeys rules) (first : Between P) (deepest : ℕ) (base : List ℕ) where
-  -- the value is handed in
-  pub run_handed : (n : ℕ) (r : Rows) (a : Actor P) (step : Step) (seen : ℕ) (status : Status) → IsSettled a.engine → ending_of a.status ≡ None → in_transaction (handed_to a.engine (Some step) seen) ≡ in_transaction a.engine
-      → IsRun rules first deepest base n r a → IsRun rules first deepest base n r (record a { engine = handed_to a.engine (Some step) seen; status = status })
-  run_handed n r a step seen status settled on same x =
-      let kept = (handed_is a.engine step seen).keeps in
-      run_on rules first deepest base (record a { engine = handed_to a.engine (Some step) seen; status = status }) x x.run refl same refl refl (λ end e. absurd (let z = sym on ∙ e in cc)) (λ b row points o e t. (row, points, e, refl, record { open_try = handed_on t.open_try step seen settled.reads; anew = kept.again ∙ t.anew }))
-      (λ b o k. before_as (record a { engine = handed_to a.engine (Some step) seen; status = status }) k (top n) refl refl refl (kept.arena (shut_revocable a.engine settled o)) kept.again (λ row e. e))
-
-  -- the open attempt is told where it reads
-  pub run_told : (n : ℕ) (r : Rows) (a : Actor P) → IsRun rules first deepest base n r a → IsRun rules first deepest base n r (told a)
-  run_told n r a x =
-      run_on rules first deepest base (told a) x x.run refl refl refl refl (λ end e. e)
-      (λ b row points o e t. (record row { at = a.engine.snapshot / 2 }, points, moved_stage (a.engine.snapshot / 2) a.run.current row points e, refl, record { open_try = told_on t.open_try (a.engine.snapshot / 2) row.calls.room; anew = t.anew }))
-      (λ b o k. before_as (told a) k (top n) refl refl refl refl refl (λ row e. sym (moved_begun (a.engine.snapshot / 2) a.run.current) ∙ e))
-
--- it goes on, or is answered
 
 module _ {P : Type 0} {rules : Rules P} (laws : Obeys rules) {cells : Cells} {r : Rows} {old : Actor P} {call : Call} {what : Next} {cells' : Cells} {new : Core} (m : IsStepping rules cells r old call what cells' new)
     (status : Status) (ready : status ≡ Ready) (first : Between P) (base : List ℕ) (laid : AreLaid (mid_step m).depth base cells r) (runs : RunsFrom rules first (mid_step m).depth base cells r old) where
   seen_step : HasSeen (mid_step m).depth base cells cells' r (mid_step m) new
-  seen_step =
-      let w = waits m in
-      let sees = runs.sees in
-      subst (λ (c : Cells). HasSeen (mid_step m).depth base cells c r (mid_step m) new) (sym m.cells_are) (step_seen (mid_step m).depth base cells r old.engine new m.step laid m.sound.tied sees w.waits w.lawful m.resumed.joins)
+  seen_step = subst (λ (c : Cells). HasSeen (mid_step m).depth base cells c r (mid_step m) new) (sym m.cells_are) (step_seen (mid_step m).depth base cells r old.engine laid m.sound.tied runs.sees m.step (waits m).waits (waits m).lawful new m.resumed.joins)
 
+  -- the value is handed in
   run_mid : IsRun rules first (mid_step m).depth base (cells.clock / 2) r (record old { engine = mid_step m; status = status })
-  run_mid = run_handed rules laws first (mid_step m).depth base (cells.clock / 2) r old m.step (found cells m.step) status m.sound.tied.settled (ap ending_of m.waiting) (ap is_inside (same m).blocks) runs.runs
+  run_mid =
+      let kept = same m in
+      let settled = m.sound.tied.settled in
+      run_on rules first (mid_step m).depth base (record old { engine = mid_step m; status = status }) runs.runs runs.runs.run refl (ap is_inside kept.blocks) refl refl (λ end e. absurd (let z = sym (ap ending_of m.waiting) ∙ e in cc))
+      (λ b row points o e t. (row, points, e, refl, record { open_try = handed_on t.open_try m.step (found cells m.step) settled.reads; anew = kept.again ∙ t.anew }))
+      (λ b o k. before_as (record old { engine = mid_step m; status = status }) k (top (cells.clock / 2)) refl refl refl (kept.arena (shut_revocable old.engine settled o)) kept.again (λ row e. e))
 
   pub step_runs : (r1 : Rows) (last : Actor P) → IsDone rules (in_transaction old.engine) (restarts_left (mid_step m)) r r1 (record old { engine = new; status = status }) last call what → Tells rules r r1 (record old { engine = new; status = status }) last call what
       → (more : List Attempt) → r1.ended ≡ r.ended ++ more → AreCounted cells'.clock r1.ended → AreLaid (mid_step m).depth base cells' r1 × RunsFrom rules first (mid_step m).depth base cells' r1 (told last)
@@ -286,7 +229,9 @@ module _ {P : Type 0} {rules : Rules P} (laws : Obeys rules) {cells : Cells} {r 
         x.laid counted,
         record {
           depth = ap (λ (c : Core). c.depth) (now taken done tells).engine ∙ (limit_same (mid_step m) new what (went m)).2;
-          runs = run_told rules laws first (mid_step m).depth base (cells'.clock / 2) r1 last x.run;
+          runs = run_on rules first (mid_step m).depth base (told last) x.run x.run.run refl refl refl refl (λ end e. e)
+              (λ b row points o e t. (record row { at = at }, points, moved_stage at last.run.current row points e, refl, record { open_try = told_on t.open_try at row.calls.room; anew = t.anew }))
+              (λ b o k. before_as (told last) k (top (cells'.clock / 2)) refl refl refl refl refl (λ row e. sym (moved_begun at last.run.current) ∙ e));
           sees = x.sees;
           held = λ i row f.
               (let was = moved_open at last.run.current row f in
@@ -296,15 +241,9 @@ module _ {P : Type 0} {rules : Rules P} (laws : Obeys rules) {cells : Cells} {r 
           fed = λ true_room.
               (let before = runs.fed true_room in
               let kept = same m in
-              let within = λ (h : (mid_step m).irrevocable ≡ true) (row : Attempt) (e : active_of old ≡ Some row). before.within (sym kept.irrevocable ∙ h) row e in
-              let shut = λ (o : in_transaction (mid_step m) ≡ false). kept.irrevocable ∙ shut_revocable old.engine m.sound.tied.settled (sym (ap is_inside kept.blocks) ∙ o) in
-              let left = recorded (λ x y. HasLeft rules first.player y) taken done tells (waits_left laws first.player true_room before.moves before.comes before.blocks within shut) (λ answer is t. answered_left laws first.player true_room before.moves before.comes before.blocks within shut answer t) in
-              record {
-                moves = left.moves;
-                comes = left.comes;
-                blocks = left.blocks;
-                within = λ h row f. (let was = moved_open at last.run.current row f in subst (λ (y : Attempt). EndsWithin rules y.calls.room last.run.player) (sym was.2) (left.within h was.0 was.1));
-                fed = λ e. absurd (x.fed e);
-              });
+              let handed = fed_by rules first.player (record old { engine = mid_step m; status = status }) ((before.moves, before.comes), before.blocks) (λ h. before.within (sym kept.irrevocable ∙ h)) (λ e. still_going ready e) in
+              let left = fed_recorded laws first.player true_room handed (λ o. kept.irrevocable ∙ shut_revocable old.engine m.sound.tied.settled (sym (ap is_inside kept.blocks) ∙ o)) r1 last taken done tells in
+              fed_by rules first.player (told last) ((left.moves, left.comes), left.blocks)
+              (λ h row f. (let was = moved_open at last.run.current row f in subst (λ (y : Attempt). EndsWithin rules y.calls.room last.run.player) (sym was.2) (left.within h was.0 was.1))) left.fed);
         },
       )

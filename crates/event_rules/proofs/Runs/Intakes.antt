@@ -1,16 +1,14 @@
 -- A value or a call was taken in, and what the engine gave is recorded: the actor's run goes on, and the words are still those that the commits left.
 use Rattle.std.proofs.Common.{◌≡◌, ℕ, suc, ◌+◌, ◌/◌, ◌≤◌, ◌==◌, Bool, true, false, List, [], ◌∷◌, ◌++◌, Option, None, Some, refl, sym, true≢false, ap, subst, ◌∙◌, arith, eq-eqb, append-nil, length, inl, inr}
-use Rattle.event_rules.proofs.Common.{Actor, Agrees, Answer, Answers, AreCounted, AreLaid, Asks, Attempt, Between, Busy, Call, Cells, Committed, Conflict, Core, Full, HasRow, IsDone, IsHeld, IsRun, Loaded, Next, NoMemory, Obeys, Replied, Reply, Restarted, Rows, Rules, Sees, StandsIn, State, Step, Tells, Waits, active_of, after, alone, alone_whole, asks_on, backed, bytes_at, bytes_stay, committed_at, cond-true, ending_of, found_later, frees, in_transaction, is_open, memory_left, none_next, open_by, open_in, opened, ran_on, reply_cases, restarts_left, rests, same_Some, stands_for, stands_open, taken_at, told_active, with_call, words_at}
-use Rattle.event_rules.proofs.Tries.OpenTries.{agree_reads}
+use Rattle.event_rules.proofs.Common.{Actor, Agrees, Answer, Answers, AreCounted, AreLaid, Asks, Attempt, Between, Busy, Call, Cells, Committed, Conflict, Core, Full, HasRow, IsDone, IsHeld, IsRun, Loaded, Next, NoMemory, Obeys, Replied, Reply, Restarted, Rows, Rules, Sees, StandsIn, State, Step, Tells, Waits, active_of, after, alone, alone_whole, asks_on, backed, bytes_at, bytes_stay, committed_at, cond-true, ending_of, found_later, frees, in_transaction, is_open, memory_left, none_next, open_by, open_in, opened, ran_on, reply_cases, restarts_left, rests, same_Some, stands_for, stands_mode, stands_open, taken_at, told_active, with_call, words_at}
 use Rattle.tx_attempts.proofs.RunsAgain.{state_more_in}
 use Rattle.event_rules.proofs.Commits.LaidWords.{laid_more, laid_on}
-use Rattle.event_rules.proofs.Runs.Answers.{back_runs, before_as, held_position, reply_runs, run_on, stands_at, top}
+use Rattle.event_rules.proofs.Runs.Answers.{back_runs, before_as, held_position, reply_runs, run_on, top}
 use Rattle.event_rules.proofs.Runs.Endings.{cancel_runs, commit_ended, committed_row, commit_memory, commit_runs, conflict_runs, full_runs}
-use Rattle.event_rules.proofs.Engines.HeldCalls.{HasHeld, stands_mode}
+use Rattle.event_rules.proofs.Engines.HeldMoves.{HasHeld}
 use Rattle.event_rules.proofs.Runs.Begins.{begin_holds, shut_runs}
 use Rattle.event_rules.proofs.Commits.SeenMemories.{HasSeen, memory_at}
-use Rattle.event_rules.proofs.Engines.Intakes.{HasAnswered, HasTaken, answered, still_going, clock_grows, half_same, unfreed}
-use Rattle.event_rules.proofs.Tries.AnswerEndings.{not_starved}
+use Rattle.event_rules.proofs.Engines.Intakes.{HasAnswered, HasTaken, answered, still_going, clock_grows, half_same, not_starved, read_late, unfreed}
 
 module _ {P : Type 0} (rules : Rules P) (first : Between P) (deepest : ℕ) (base : List ℕ) where
   -- what is true of the actor then; the words are laid as soon as its attempts are counted
@@ -26,7 +24,7 @@ module _ {P : Type 0} {rules : Rules P} (laws : Obeys rules) {first : Between P}
   -- no commit is done
   laid_still : (r1 : Rows) (more : List Attempt) → r1.ended ≡ r.ended ++ more → cells'.clock / 2 ≡ cells.clock / 2 → mid.freed ≡ false → AreCounted cells'.clock r1.ended → AreLaid mid.depth base cells' r1
   laid_still r1 more ended half unfreed counted =
-      laid_on mid.depth base cells cells' r r1 seen.laid counted half seen.long (bytes_stay seen.laid more ended) (seen.even unfreed)
+      laid_on mid.depth base cells cells' r r1 seen.laid counted seen.long (bytes_stay seen.laid more ended) half (seen.even unfreed)
 
   -- ## The call goes on
 
@@ -75,20 +73,17 @@ module _ {P : Type 0} {rules : Rules P} (laws : Obeys rules) {first : Between P}
     open_runs : (answer : Answer) → HasAnswered rules true cells cells' r r1 mid a last call answer → HasHeld mid.depth base cells cells' r (active_of a) mid a.engine call (Answers answer) → IsRun rules first mid.depth base (cells'.clock / 2) r1 last
     open_runs (Reply reply) m held = by_open (in_transaction last.engine) refl
       where
-        half : cells'.clock / 2 ≡ cells.clock / 2
-        half = half_same m refl
-
         by_open : (now : Bool) → in_transaction last.engine ≡ now → IsRun rules first mid.depth base (cells'.clock / 2) r1 last
-        by_open true o = to_now half (reply_runs laws r1 a last call seen run reply m held o)
-        by_open false o = cancel_runs laws r1 a last call seen run (cells'.clock / 2) (clock_grows m.taken.moves) (bytes_stay seen.laid more ended) m.taken.was_is reply m o
-            (omega (arith, half, m.taken.tied.settled.reached, m.taken.tied.late))
-    open_runs (Committed at wrote) m held = commit_runs laws r1 a last call seen run (cells'.clock / 2) (clock_grows m.taken.moves) (bytes_stay seen.laid more ended) m.taken.was_is at wrote m held
-    open_runs (Conflict clock word) m held = conflict_runs laws r1 a last call seen run (cells'.clock / 2) (clock_grows m.taken.moves) (bytes_stay seen.laid more ended) m.taken.was_is clock word m held
-    open_runs (Restarted clock word) m held = to_now (half_same m refl) (back_runs laws r1 a last call seen run clock word m)
+        by_open true o = to_now (half_same m refl) (reply_runs laws cells r1 a last call run seen reply m held o)
+        by_open false o = cancel_runs laws r1 a last call seen.laid seen.words run (cells'.clock / 2) (clock_grows m.taken.moves) (bytes_stay seen.laid more ended) m.taken.was_is seen reply m o
+            (read_late m refl)
+    open_runs (Committed at wrote) m held = commit_runs laws r1 a last call seen.laid seen.words run (cells'.clock / 2) (clock_grows m.taken.moves) (bytes_stay seen.laid more ended) m.taken.was_is seen at wrote m held
+    open_runs (Conflict clock word) m held = conflict_runs laws r1 a last call seen.laid seen.words run (cells'.clock / 2) (clock_grows m.taken.moves) (bytes_stay seen.laid more ended) m.taken.was_is seen clock word m held
+    open_runs (Restarted clock word) m held = to_now (half_same m refl) (back_runs laws cells r1 a last call run seen clock word m)
     open_runs (Busy clock) m held = absurd (let f : true ≡ false = m.answered.fits.0 in cc)
     open_runs (Full at) m held =
         let at_is = m.ends.at_is in
-        full_runs laws r1 a last call seen run (cells'.clock / 2) (clock_grows m.taken.moves) (bytes_stay seen.laid more ended) m.taken.was_is at m held
+        full_runs laws r1 a last call seen.laid seen.words run (cells'.clock / 2) (clock_grows m.taken.moves) (bytes_stay seen.laid more ended) m.taken.was_is seen at m held
         (omega (arith, (run.inside m.taken.was_is).5.open_try.began, seen.up m.taken.was_is)) (omega (arith, m.taken.tied.settled.reached, m.taken.tied.late, clock_grows m.taken.moves, m.taken.moves.keeps m.ends.unfreed))
 
     runs_on : (b : Bool) (answer : Answer) → HasAnswered rules b cells cells' r r1 mid a last call answer → HasHeld mid.depth base cells cells' r (active_of a) mid a.engine call (Answers answer) → IsRun rules first mid.depth base (cells'.clock / 2) r1 last
@@ -120,21 +115,18 @@ module _ {P : Type 0} {rules : Rules P} (laws : Obeys rules) {first : Between P}
     laid_freed at m held counted =
         let freed : mid.freed ≡ true = m.ends.freed in
         let x = m.taken.moves.frees freed in
-        let before = x.0 in
-        let after = x.1 in
-        let at_is = m.ends.at_is in
-        let position : at ≡ cells.clock / 2 = omega arith in
+        let position : at ≡ cells.clock / 2 = omega (arith, x.0, m.ends.at_is) in
         let up = clock_grows m.taken.moves in
         let inside = m.taken.was_is in
         let t = run.inside inside in
         let row : Attempt = committed_row true at a.engine call t.1 in
-        let rows : r1.ended ≡ r.ended ++ row ∷ [] = commit_ended laws r1 a last call seen run (cells'.clock / 2) up (bytes_stay seen.laid more ended) inside at true m held in
-        let left_so = commit_memory laws r1 a last call seen run (cells'.clock / 2) up (bytes_stay seen.laid more ended) inside at true m held refl in
+        let rows : r1.ended ≡ r.ended ++ row ∷ [] = commit_ended laws r1 a last call seen.laid seen.words run (cells'.clock / 2) up (bytes_stay seen.laid more ended) inside seen at true m held in
+        let left_so = commit_memory laws r1 a last call seen.laid seen.words run (cells'.clock / 2) up (bytes_stay seen.laid more ended) inside seen at true m held refl in
         let found_row : committed_at r1.ended (cells.clock / 2) ≡ Some row =
         ap (λ (x : List Attempt). committed_at x (cells.clock / 2)) rows
         ∙ (found_later r.ended (row ∷ []) (cells.clock / 2) (none_next mid.depth base cells.clock r.ended seen.laid.counted (cells.clock / 2) (let l : cells.clock / 2 ≤ cells.clock / 2 = omega arith in l)) ∙ cond-true (at == cells.clock / 2) (Some row) None (eq-eqb at (cells.clock / 2) position)) in
         let next_is : cells.clock / 2 + 1 ≡ suc (cells.clock / 2) = omega arith in
-        laid_more mid.depth base cells cells' r r1 seen.laid counted (omega arith) seen.long m.taken.tied.fit (bytes_stay seen.laid more ended)
+        laid_more mid.depth base cells cells' r r1 seen.laid counted seen.long (bytes_stay seen.laid more ended) (omega (arith, x.0, x.1)) m.taken.tied.fit
         (ap (bytes_at mid.depth base r1.ended) next_is
         ∙ (ap (memory_left mid.depth (bytes_at mid.depth base r1.ended (cells.clock / 2))) found_row
         ∙ (ap (λ (k : ℕ). (alone mid.depth (bytes_at mid.depth base r1.ended k) row).memory) (sym position) ∙ left_so)))
@@ -164,12 +156,12 @@ module _ {P : Type 0} {rules : Rules P} (laws : Obeys rules) {first : Between P}
           (let n = cells.clock / 2 in
           let half = m.taken.moves.keeps g.unfreed in
           let position : List ℕ = words_at mid.depth base r.ended n in
-          let same = held_position laws r1 a last call seen run m.taken.tied (ap (λ (c : Core). c.holds) g.stays ∙ g.held) (ap (λ (c : Core). c.clock) g.stays) half g.taken in
+          let same = held_position laws cells r1 a last call run m.taken.tied (ap (λ (c : Core). c.holds) g.stays ∙ g.held) (ap (λ (c : Core). c.clock) g.stays) half g.taken in
           let agrees : Agrees position mid.log = subst (λ (k : ℕ). Agrees (words_at mid.depth base r.ended k) mid.log) same (seen.logged m.taken.was_is) in
           let words : cells'.words ≡ backed mid position = (seen.loaded g.unfreed).held g.held g.revocable ∙ ap (λ (k : ℕ). backed mid (words_at mid.depth base r.ended k)) half in
           ap (stands_for a.engine) words
           ∙ (g.meets position (memory_at seen n (top n)) agrees
-          ∙ ap (λ (s : State). after mid.depth s call) (stands_at laws r1 a last call seen run m.taken.was_is n (top n) (agree_reads position mid.irrevocable mid.log position g.revocable agrees) refl g.revocable)))
+          ∙ ap (λ (s : State). after mid.depth s call) ((run.inside m.taken.was_is).5.open_try.stands g.revocable position (memory_at seen n (top n)) agrees ∙ ap (λ (bytes : List ℕ). alone_whole mid.depth bytes (run.inside m.taken.was_is).1) (seen.laid.memories.same n (top n)))))
       | inr (inr g) ↦ (held.comes g.irrevocable (run.inside m.taken.was_is).1 (ap open_in (run.inside m.taken.was_is).4)).0
     ]
 

@@ -1,15 +1,12 @@
 -- The actors' runs: one's event leaves the others', and together they are the headline.
-use Rattle.std.proofs.Common.{◌≡◌, ◌≢◌, inl, inr, ℕ, ◌/◌, ◌%◌, ◌≤◌, Bool, true, false, List, [], ◌∷◌, ◌++◌, length, length-set, replicate, Option, Some, ◌+◌, ◌<◌, slice_get, slice_set, refl, sym, ap, subst, ◌∙◌, arith, nat_lt}
-use Rattle.event_rules.proofs.Common.{Actor, Agrees, AllFit, AllOf, AreActors, AreDated, AreLaid, AreOfActors, AreOpaque, AreOutrun, AreRunning, AreTied, Attempt, Between, Cells, ClocksOn, Core, Current, Got, HasRead, HasRow, IsHeld, IsMadeAlone, IsMemory, IsRunOf, IsTied, IsTryAt, IsWorld, KeepsOthers, Obeys, Outside, ReadsFrom, Ready, RestartAtMost, Rows, Rules, RunsFrom, StandsIn, State, StillRuns, World, active_of, alone, alone_led, alone_whole, append-nil, attempts_of, backed, begun_in, breaks_of, bytes_at, bytes_of, bytes_stay, bytes_still, cases_Bool, count_at, count_committed, first_of, in_transaction, is_open, le-ltb, length-bytes_of, observed, of_thread, of_thread_more, one_where, open_in, opened, opening, opens, positioned_on, row_open, row_unfinished, run_after, run_still, run_with, same_Some, set_place, slice_get_within, stage_of, state_then, there_is, try_stops, with_open, words_at, words_of, words_of-bytes_of, write_at}
+use Rattle.std.proofs.Common.{◌≡◌, inl, inr, ℕ, ◌/◌, ◌%◌, ◌≤◌, Bool, true, false, List, [], ◌∷◌, ◌++◌, length, length-set, replicate, Option, Some, ◌+◌, slice_get, slice_set, refl, sym, ap, subst, ◌∙◌, arith}
+use Rattle.event_rules.proofs.Common.{Actor, Agrees, AllFit, AllOf, AreActors, AreDated, AreLaid, AreOfActors, AreOpaque, AreOutrun, AreRunning, AreTied, Attempt, Between, Cells, ClocksOn, Core, Current, Got, HasRead, HasRow, IsHeld, IsMadeAlone, IsMemory, IsRunOf, IsTied, IsTryAt, IsWorld, KeepsOthers, Obeys, Outside, ReadsFrom, Ready, RestartAtMost, Rows, Rules, RunsFrom, StandsIn, State, StillRuns, World, active_of, agree_reads, alone, alone_led, alone_whole, append-nil, attempts_of, backed, begun_in, both_outrun, breaks_of, bytes_at, bytes_of, bytes_stay, bytes_still, cases_Bool, first_of, in_transaction, is_open, length-bytes_of, made_alone, observed, of_thread, of_thread_more, open_in, open_so as open_within, opened, opening, opens, positioned_on, row_open, row_unfinished, run_after, run_still, run_with, same_Some, set_place, slice_get_within, stage_of, stands_mode, state_then, stays_as, there_is, try_stops, whole_then, with_open, words_at, words_of, words_of-bytes_of, write_at}
 use Rattle.tx_attempts.specs.declared.attempt.Outcome.TheVariants as outcomes
 use Rattle.event_rules.proofs.Tries.Dates.{all_dated, all_few}
 use Rattle.event_rules.proofs.Events.SoundOthers.{held_apart, odd_held}
 use Rattle.event_rules.proofs.Runs.Answers.{before_as, idle_from, rests_run, run_on, top}
-use Rattle.event_rules.proofs.Tries.OpenTries.{agree_reads, made_over, open_over, ran_over, stands_over, stays_over}
-use Rattle.event_rules.proofs.Engines.HeldCalls.{stands_mode}
-use Rattle.event_rules.proofs.Commits.CommitCounts.{counted_both}
-use Rattle.event_rules.proofs.Commits.OutrunConflicts.{outrun_both}
-use Rattle.event_rules.proofs.Tries.ThreadAttempts.{are_open, of_actors_all, of_actors_both, of_actors_each, of_thread_none, opens_each, opens_of, row_there, stand_there}
+use Rattle.event_rules.proofs.Commits.CommitCounts.{counted_both, counted_first, open_outrun}
+use Rattle.event_rules.proofs.Tries.ThreadAttempts.{are_open, of_actors_all, of_actors_both, of_thread_none, opens_each, opens_of, row_there, stand_there}
 
 module _ {P : Type 0} (rules : Rules P) (laws : Obeys rules) where
   -- ## Another one's event
@@ -37,18 +34,14 @@ module _ {P : Type 0} (rules : Rules P) (laws : Obeys rules) where
         });
         held = λ i row f.
             subst (λ (bytes : List ℕ). IsHeld deepest bytes cells'.words row b.engine) (sym (memory_held i))
-            (subst (λ (c : Cells). IsHeld deepest (bytes_at deepest base r.ended (cells.clock / 2)) c.words row b.engine) (sym (held (holds_it i))) (x.held i row f));
+            (subst (λ (c : Cells). IsHeld deepest (bytes_at deepest base r.ended (cells.clock / 2)) c.words row b.engine) (sym (held (tied.settled.irrevocable i).0)) (x.held i row f));
         starved = x.starved;
         reads = x.reads;
         fed = x.fed;
       }
     where
-      -- an irrevocable one holds the clock
-      holds_it : b.engine.irrevocable ≡ true → b.engine.holds ≡ true
-      holds_it i = (tied.settled.irrevocable i).0
-
       memory_held : b.engine.irrevocable ≡ true → bytes_at deepest base r'.ended (cells'.clock / 2) ≡ bytes_at deepest base r.ended (cells.clock / 2)
-      memory_held i = ap (λ (c : Cells). bytes_at deepest base r'.ended (c.clock / 2)) (held (holds_it i)) ∙ bytes_stay laid more ended (cells.clock / 2) (top (cells.clock / 2))
+      memory_held i = ap (λ (c : Cells). bytes_at deepest base r'.ended (c.clock / 2)) (held (tied.settled.irrevocable i).0) ∙ bytes_stay laid more ended (cells.clock / 2) (top (cells.clock / 2))
 
       rows : of_thread b.run.thread r'.ended ≡ of_thread b.run.thread r.ended
       rows =
@@ -69,60 +62,53 @@ module _ {P : Type 0} (rules : Rules P) (laws : Obeys rules) where
     shown_still : (k : ℕ) → k ≤ w.cells.clock / 2 → bytes_at w.limits.depth w.base (attempts_of w) k ≡ bytes_at w.limits.depth w.base w.attempts.ended k
     shown_still k l = bytes_still w.limits.depth w.base w.cells.clock w.attempts.ended running.laid.counted (opens w.actors) k l
 
-    -- of an open attempt: its calls are made alone on the memory of its position, and its actions and its mode are those of the state that they lead to
-    abbrev Parts : (p : P) (a : Actor P) → RunsFrom rules (first_of p w.arena) w.limits.depth w.base w.cells w.attempts a → in_transaction a.engine ≡ true → Type 0
-    Parts p a x o =
+    -- of an open attempt: its calls are made alone on this memory, and its actions and its mode are those of the state that they lead to
+    abbrev Over : (p : P) (a : Actor P) → RunsFrom rules (first_of p w.arena) w.limits.depth w.base w.cells w.attempts a → in_transaction a.engine ≡ true → List ℕ → Type 0
+    Over p a x o memory =
         let t = x.runs.inside o in
-        let memory : List ℕ = bytes_at w.limits.depth w.base (attempts_of w) (a.engine.snapshot / 2) in
         let start = t.5.open_try.of_block.start in
         let state : State = state_then w.limits.depth (breaks_of t.1.restarts) (opened memory start.arena start.props) t.1.calls.list in
         IsMadeAlone rules w.limits.depth t.0 start t.1 memory × (t.1.ran ≡ state.actions.ran) × (state.irrevocable ≡ a.engine.irrevocable)
 
+    over_it : (p : P) (a : Actor P) (x : RunsFrom rules (first_of p w.arena) w.limits.depth w.base w.cells w.attempts a) (o : in_transaction a.engine ≡ true) (m : List ℕ) → IsMemory a.engine.words m → ReadsFrom a.engine.irrevocable (words_at w.limits.depth w.base w.attempts.ended (w.cells.clock / 2)) a.engine.log m
+        → is_open (whole_then w.limits.depth (x.runs.inside o).1 m (x.runs.inside o).1.calls.list) ≡ true → (whole_then w.limits.depth (x.runs.inside o).1 m (x.runs.inside o).1.calls.list).irrevocable ≡ a.engine.irrevocable → Over p a x o (bytes_of m)
+    over_it p a x o m mem reads still mode =
+        let t = x.runs.inside o in
+        let try = t.5.open_try in (
+          made_alone try m mem reads still,
+          try.ran m mem reads ∙ (λ i. (state_then w.limits.depth (breaks_of t.1.restarts) (opened (bytes_of m) (try.of_block.arena i) (try.of_block.props i)) t.1.calls.list).actions.ran),
+          ap (λ (y : State). y.irrevocable) (stays_as try m mem reads) ∙ mode,
+        )
+
+    -- the memory of its position
+    abbrev Parts : (p : P) (a : Actor P) → RunsFrom rules (first_of p w.arena) w.limits.depth w.base w.cells w.attempts a → in_transaction a.engine ≡ true → Type 0
+    Parts p a x o = Over p a x o (bytes_at w.limits.depth w.base (attempts_of w) (a.engine.snapshot / 2))
+
     open_parts : (place : ℕ) (p : P) (a : Actor P) (e : slice_get w.opening place ≡ Some p) (f : slice_get w.actors place ≡ Some a) (o : in_transaction a.engine ≡ true) → Parts p a (running.each place p a e f) o
-    open_parts place p a e f o = elim (cases_Bool a.engine.irrevocable) [ inl i ↦ held_so i | inr r ↦ open_so r ]
-      where
-        x : RunsFrom rules (first_of p w.arena) w.limits.depth w.base w.cells w.attempts a
-        x = running.each place p a e f
-
-        tied : IsTied w.cells a.engine
-        tied = (sound.each place a f).sound.tied
-
-        k_late : a.engine.snapshot / 2 ≤ w.cells.clock / 2
-        k_late = (let reached = tied.settled.reached in let late = tied.late in omega arith)
-
-        open_so : a.engine.irrevocable ≡ false → Parts p a x o
-        open_so r =
-            let k : ℕ = a.engine.snapshot / 2 in
-            let m : List ℕ = words_at w.limits.depth w.base w.attempts.ended k in
-            let fits = running.laid.memories.fits k k_late in
-            let same = running.laid.memories.same k k_late ∙ sym (shown_still k k_late) in
-            let t = (x.runs.inside o).5.open_try in
-            let mem : IsMemory a.engine.words m = (fits.0 ∙ sym tied.words, fits.1) in
-            let bytes : List ℕ = bytes_at w.limits.depth w.base (attempts_of w) k in
-            let reads = agree_reads (words_at w.limits.depth w.base w.attempts.ended (w.cells.clock / 2)) a.engine.irrevocable a.engine.log m r (x.sees.logged o) in (
-              made_over t m mem reads bytes same (open_over t m mem reads bytes same r o),
-              ran_over t m mem reads bytes same,
-              ap (λ (y : State). y.irrevocable) (stays_over t m mem reads bytes same) ∙ (ap (λ (y : State). y.irrevocable) (sym (stands_over t m mem reads bytes same r)) ∙ stands_mode a.engine m),
-            )
-
-        held_so : a.engine.irrevocable ≡ true → Parts p a x o
-        held_so i =
-            let t = x.runs.inside o in
-            let h = x.held i t.1 (ap open_in t.4) in
-            let holds = (tied.settled.irrevocable i).0 in
-            let half : a.engine.snapshot / 2 ≡ w.cells.clock / 2 = omega (arith, tied.holder holds, (tied.settled.holder holds).1, tied.settled.even) in
-            let n : ℕ = w.cells.clock / 2 in
-            let m : List ℕ = words_at w.limits.depth w.base w.attempts.ended n in
-            let fits = running.laid.memories.fits n (top n) in
-            let mem : IsMemory a.engine.words m = (fits.0 ∙ sym tied.words, fits.1) in
-            let bytes : List ℕ = bytes_at w.limits.depth w.base (attempts_of w) (a.engine.snapshot / 2) in
-            let shown : bytes ≡ bytes_at w.limits.depth w.base w.attempts.ended n = ap (bytes_at w.limits.depth w.base (attempts_of w)) half ∙ shown_still n (top n) in
-            let same = running.laid.memories.same n (top n) ∙ sym shown in
-            let reads : ReadsFrom a.engine.irrevocable m a.engine.log m = subst (λ (b : Bool). ReadsFrom b m a.engine.log m) (sym i) refl in (
-              made_over t.5.open_try m mem reads bytes same (ap (λ (y : List ℕ). is_open (alone_whole w.limits.depth y t.1)) shown ∙ h.still_open),
-              ran_over t.5.open_try m mem reads bytes same,
-              ap (λ (y : State). y.irrevocable) (stays_over t.5.open_try m mem reads bytes same) ∙ (ap (λ (y : List ℕ). (alone_whole w.limits.depth y t.1).irrevocable) shown ∙ (h.mode ∙ sym i)),
-            )
+    open_parts place p a e f o =
+        let x = running.each place p a e f in
+        let tied = (sound.each place a f).sound.tied in
+        let k : ℕ = a.engine.snapshot / 2 in
+        let late : k ≤ w.cells.clock / 2 = omega (arith, tied.settled.reached, tied.late) in
+        let m : List ℕ = words_at w.limits.depth w.base w.attempts.ended k in
+        let last : List ℕ = words_at w.limits.depth w.base w.attempts.ended (w.cells.clock / 2) in
+        let fits = running.laid.memories.fits k late in
+        let same = running.laid.memories.same k late in
+        let mem : IsMemory a.engine.words m = (fits.0 ∙ sym tied.words, fits.1) in
+        let t = x.runs.inside o in
+        subst (Over p a x o) (same ∙ sym (shown_still k late)) (elim (cases_Bool a.engine.irrevocable) [
+          | inl i ↦
+              (let h = x.held i t.1 (ap open_in t.4) in
+              let holds = (tied.settled.irrevocable i).0 in
+              let half : k ≡ w.cells.clock / 2 = omega (arith, tied.holder holds, (tied.settled.holder holds).1, tied.settled.even) in
+              let here : bytes_of m ≡ bytes_at w.limits.depth w.base w.attempts.ended (w.cells.clock / 2) = same ∙ ap (bytes_at w.limits.depth w.base w.attempts.ended) half in
+              over_it p a x o m mem (subst (λ (b : Bool). ReadsFrom b last a.engine.log m) (sym i) (ap (words_at w.limits.depth w.base w.attempts.ended) half))
+              (ap (λ (y : List ℕ). is_open (alone_whole w.limits.depth y t.1)) here ∙ h.still_open) (ap (λ (y : List ℕ). (alone_whole w.limits.depth y t.1).irrevocable) here ∙ (h.mode ∙ sym i)))
+          | inr r ↦
+              (let try = t.5.open_try in
+              let reads = agree_reads last a.engine.irrevocable a.engine.log m r (x.sees.logged o) in
+              over_it p a x o m mem reads (open_within try m mem reads r o) (ap (λ (y : State). y.irrevocable) (sym (try.stands r m mem (x.sees.logged o))) ∙ stands_mode a.engine m))
+        ])
 
     of_actor : (place : ℕ) (p : P) (a : Actor P) → slice_get w.opening place ≡ Some p → slice_get w.actors place ≡ Some a
         → IsRunOf rules w.limits.depth (w.cells.clock / 2) (bytes_at w.limits.depth w.base (attempts_of w)) (Some (first_of p w.arena)) (of_thread place (attempts_of w))
@@ -144,7 +130,7 @@ module _ {P : Type 0} (rules : Rules P) (laws : Obeys rules) where
               let parts = open_parts place p a e f o in
               let block = t.5.open_try.of_block in
               let active : active_of a ≡ Some t.1 = ap open_in t.4 in
-              let try = try_stops laws w.limits.depth block n shown k outcomes.Unfinished t.1.ran refl parts.0 parts.0.still_open t.5.open_try.began late parts.1 (λ f. absurd (cc)) in
+              let try = try_stops laws w.limits.depth block n shown k (shown k) refl outcomes.Unfinished t.1.ran refl parts.0 parts.0.still_open t.5.open_try.began late parts.1 (λ f. absurd (cc)) in
               let as_it_is : record t.1 { at = k; outcome = outcomes.Unfinished } ≡ t.1 =
               λ i. record t.1 { at = (sym (x.reads t.1 active)) i; outcome = (sym (row_unfinished (in_transaction a.engine) a t.1 s.sound.kept.row active)) i } in
               let rows : of_thread a.run.thread (attempts_of w) ≡ ended ++ t.1 ∷ [] = own_rows ∙ ap (λ (o : Option Attempt). ended ++ with_open o []) active in
@@ -189,9 +175,9 @@ module _ {P : Type 0} (rules : Rules P) (laws : Obeys rules) where
     are_opaque outrun dated few = record {
       runs = λ place p e. (let here = there_is w.actors place (omega (arith, long, slice_get_within w.opening place p e)) in of_actor place p here.0 e here.1);
       threads = subst (λ (n : ℕ). AreOfActors n (attempts_of w)) long (of_actors_both (length w.actors) w.attempts.ended (opens w.actors) running.threads
-          (of_actors_each (length w.actors) (opens w.actors) (opens_each (λ (row : Attempt). row.thread < length w.actors) w.actors (λ place a row e here. omega (arith, row_there sound place a row e here, slice_get_within w.actors place a e)))));
+          (opens_each (AreOfActors (length w.actors)) tt w.actors (λ place a row e here xs rest. (omega (arith, row_there sound place a row e here, slice_get_within w.actors place a e), rest))));
       counted = counted_both w.cells.clock w.attempts.ended (opens w.actors) (are_open sound).unfinished running.laid.counted;
-      outrun = outrun_both w.cells.clock w.attempts.ended (opens w.actors) (are_open sound).unfinished outrun;
+      outrun = both_outrun w.cells.clock w.attempts.ended (opens w.actors) outrun (open_outrun w.cells.clock (opens w.actors) (are_open sound).unfinished);
       dated = dated;
       few = few;
       size = omega (arith, length-bytes_of w.cells.words, length-bytes_of (words_of w.base), (running.laid.memories.fits 0 (omega arith)).0, ap (length {A = ℕ}) (running.laid.memories.same 0 (omega arith)));
@@ -233,9 +219,6 @@ module _ {P : Type 0} (rules : Rules P) (laws : Obeys rules) where
   module _ (w : World P) (kept : IsWorld rules w)
       (i : ℕ) (got new : Actor P) (here : slice_get w.actors i ≡ Some got) (cells' : Cells) (r' : Rows) (events : ℕ) (others : KeepsOthers got w.attempts new r') (clocks : ClocksOn w.cells got.engine cells' new.engine)
       (runs : StillRuns rules w.cells w.attempts got cells' r' new) where
-    mine : got.run.thread ≡ i
-    mine = (kept.actors.each i got here).thread
-
     player : (p : P) × (slice_get w.opening i ≡ Some p)
     player = there_is w.opening i (let l = slice_get_within w.actors i got here in omega (arith, kept.long))
 
@@ -249,15 +232,11 @@ module _ {P : Type 0} (rules : Rules P) (laws : Obeys rules) where
         let fits = went.0.memories.fits (new.engine.snapshot / 2) k_late in
         ((fits.0 ∙ sym tied.words, fits.1), went.1.sees.logged o)
 
-    -- another one that holds the clock sees no change
-    others_held : (j : ℕ) (b : Actor P) → i ≢ j → slice_get w.actors j ≡ Some b → b.engine.holds ≡ true → cells' ≡ w.cells
-    others_held j b apart e h = (held_apart w.cells cells' w.actors i got new here clocks kept.commits.one (odd_held kept.actors) j b apart e h).0
-
     pub running_after : AreRunning rules (record w { cells = cells'; actors = slice_set w.actors i new; attempts = r'; events = events })
     running_after = record {
       laid = went.0;
       threads = subst (λ (n : ℕ). AreOfActors n r'.ended) (sym (length-set w.actors i new)) (subst (AreOfActors (length w.actors)) (sym others.ended)
-          (of_actors_both (length w.actors) w.attempts.ended others.more kept.running.threads (of_actors_all (length w.actors) got.run.thread others.more (let l = slice_get_within w.actors i got here in let t = mine in omega arith) others.mine)));
+          (of_actors_both (length w.actors) w.attempts.ended others.more kept.running.threads (of_actors_all (length w.actors) got.run.thread others.more (let l = slice_get_within w.actors i got here in let t = (kept.actors.each i got here).thread in omega arith) others.mine)));
       each = each_after;
     }
       where
@@ -270,7 +249,7 @@ module _ {P : Type 0} (rules : Rules P) (laws : Obeys rules) where
           | inr h ↦
               (let b = kept.actors.each place a h.1 in
               other_runs (first_of p w.arena) w.limits.depth w.base w.cells cells' w.attempts r' got.run.thread a kept.running.laid b.sound.tied others.more others.ended others.mine
-              (λ same. h.0 (sym mine ∙ (sym same ∙ b.thread))) clocks.late (others_held place a h.0 h.1) (kept.running.each place p a e h.1))
+              (λ same. h.0 (sym (kept.actors.each i got here).thread ∙ (sym same ∙ b.thread))) clocks.late (λ holds. (held_apart w.cells cells' w.actors i got new here clocks kept.commits.one (odd_held kept.actors) place a h.0 h.1 holds).0) (kept.running.each place p a e h.1))
         ]
 
   -- ## Beginnings
@@ -285,17 +264,14 @@ module _ {P : Type 0} (rules : Rules P) (laws : Obeys rules) where
       (rests_run rules (first_of a.run.player size) deepest base (subst (IsRunOf rules deepest (cells.clock / 2) (bytes_at deepest base r.ended) (Some (first_of a.run.player size))) (sym rows) tt) shut false 0
       (ap (run_after rules deepest (bytes_at deepest base r.ended) (Some (first_of a.run.player size))) rows ∙ (λ i. Some (record { player = a.run.player; arena = sym (ap (λ (c : Core). c.arena) is) i; again = false; tries = 0 })))
       anew (λ gave_up. (let one = first in omega arith)) (ap (λ (c : Current). begun_in (stage_of c)) nothing))
-      shut (ap (λ (c : Core). c.fresh) is) (ap (λ (c : Core). c.holds) is) (ap (λ (c : Core). c.irrevocable) is) (ap (λ (c : Current). open_in (stage_of c)) nothing) (λ told. (0, refl, λ d inner few. absurd (omega arith)))
+      shut (ap (λ (c : Core). c.fresh) is) (ap (λ (c : Core). c.holds) is) (ap (λ (c : Core). c.irrevocable) is) (ap (λ (c : Current). open_in (stage_of c)) nothing) (λ told. ((0, refl), λ d inner few. absurd (omega arith)))
 
 -- no commit has been done
 pub laid_first : (deepest : ℕ) (base : List ℕ) (cells : Cells) (r : Rows) → base ≡ bytes_of cells.words → AllFit cells.words → cells.clock ≡ 0 → r.ended ≡ [] → AreLaid deepest base cells r
 laid_first deepest base cells r is fit zero_clock none =
     let words : words_of base ≡ cells.words = ap words_of is ∙ words_of-bytes_of cells.words fit in
     record {
-      counted = record {
-        all = ap count_committed none ∙ ap (λ (k : ℕ). k / 2) (sym zero_clock);
-        each = λ position. ap (count_at position) none ∙ (sym (ap one_where (le-ltb position 0 (omega arith))) ∙ ap (λ (k : ℕ). one_where (nat_lt position (k / 2))) (sym zero_clock));
-      };
+      counted = counted_first cells.clock r.ended zero_clock none;
       memories = record {
         fits = λ k l. subst (λ (j : ℕ). IsMemory (length cells.words) (words_at deepest base r.ended j)) (sym (at_zero k l)) (subst (IsMemory (length cells.words)) (sym words) (refl, fit));
         same = λ k l. subst (λ (j : ℕ). bytes_of (words_at deepest base r.ended j) ≡ bytes_at deepest base r.ended j) (sym (at_zero k l)) (ap bytes_of words ∙ sym is);

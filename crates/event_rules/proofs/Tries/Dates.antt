@@ -1,11 +1,11 @@
 -- Which try of its block an attempt is, and when it began: an event keeps what the attempts before it say of that.
 use Rattle.std.proofs.Common.{◌≡◌, ℕ, ◌+◌, ◌/◌, ◌<◌, ◌≤◌, ◌==◌, Bool, true, false, nat_lt, List, [], ◌∷◌, ◌++◌, length, Option, None, Some, is_some, slice_get, slice_set, if◌then◌else◌, inl, inr, refl, sym, ap, subst, ◌∙◌, arith, eq-eqb, append_assoc}
-use Rattle.event_rules.proofs.Common.{Actor, AllByRecursion, AllOf, AreActors, AreDated, AreFrom, AreOfActors, Attempt, BeginsAt, Call, Cells, CommitsInOrder, Continues, Core, End, GaveUp, GoesOnAfter, HasRow, HasStopped, IsBetween, IsDated, IsDatedActor, IsDatedWorld, IsEvent, IsSame, IsTry, IsWorld, Limits, NoMemory, Outcome, Phase, Prior, RestartAtMost, Rows, Rules, Status, StatusIs, Tries, TriesAgain, Waits, World, active_of, append-nil, attempts_of, begins, between, both_ways, continues_same, count_committed, current_of, ending_of, in_transaction, is_begin, is_committed, is_waiting, led_by, ltb-false, ne_eqb, none-some, one_where, open_only, opens, outrun, over, pending_of, prior_of, runs, same_Some, set_place, shut_out, tried_by, tried_in, turned_away, up_to_last, waiting_going}
+use Rattle.event_rules.proofs.Common.{Actor, AllByRecursion, AllOf, AreActors, AreDated, AreFrom, AreOfActors, Attempt, BeginsAt, Call, Cells, CommitsInOrder, Continues, Core, End, GaveUp, GoesOnAfter, HasRow, HasStopped, IsBetween, IsDated, IsDatedActor, IsDatedWorld, IsEvent, IsSame, IsTry, IsWorld, Limits, NoMemory, Outcome, Phase, Prior, RestartAtMost, Rows, Rules, Status, StatusIs, Tries, TriesAgain, Waits, World, active_of, append-nil, attempts_of, begins, between, both_ways, cond_both, continues_same, count_committed, current_of, ending_of, in_transaction, is_begin, is_committed, is_waiting, led_by, ltb-false, ne_eqb, none-some, one_where, open_only, opens, outrun, over, pending_of, prior_of, runs, same_Some, set_place, shut_out, tried_by, tried_in, turned_away, up_to_last, waiting_going}
 use Rattle.norec_core.specs.Phases as at
 use Rattle.tx_attempts.specs.declared.attempt.Outcome.TheVariants as outcomes
 use Rattle.run_rules.proofs.RestartLists.{few_both, few_more}
 use Rattle.event_rules.proofs.Tries.ThreadAttempts.{are_open, opens_each}
-use Rattle.event_rules.proofs.Commits.CommitCounts.{count_committed_both}
+use Rattle.event_rules.proofs.Commits.CommitCounts.{count_committed_both, some_ended}
 
 -- ## Up to a thread's last attempt
 
@@ -43,17 +43,13 @@ tried_more [] a = refl
 tried_more (x ∷ []) a = refl
 tried_more (x ∷ y ∷ ys) a = tried_more (y ∷ ys) a
 
-one_few : (b : Bool) (x : Attempt) → count_committed (if b then x ∷ [] else []) ≤ one_where (is_committed x.outcome)
-one_few true x = omega arith
-one_few false x = omega arith
-
-led_few : (thread : ℕ) (x : Attempt) (xs : List Attempt) → count_committed (led_by thread x xs) ≤ one_where (is_committed x.outcome) + count_committed xs
-led_few thread x [] = (let l = one_few (x.thread == thread) x in omega arith)
-led_few thread x (y ∷ ys) = omega arith
-
 last_few : (thread : ℕ) (xs : List Attempt) → count_committed (up_to_last thread xs) ≤ count_committed xs
 last_few thread [] = omega arith
-last_few thread (x ∷ xs) = (let l = led_few thread x (up_to_last thread xs) in let m = last_few thread xs in omega arith)
+last_few thread (x ∷ xs) = by_rest (up_to_last thread xs) (last_few thread xs)
+  where
+    by_rest : (ys : List Attempt) → count_committed ys ≤ count_committed xs → count_committed (led_by thread x ys) ≤ one_where (is_committed x.outcome) + count_committed xs
+    by_rest [] l = cond_both (x.thread == thread) (x ∷ []) [] (λ (zs : List Attempt). count_committed zs ≤ one_where (is_committed x.outcome) + count_committed xs) (λ h. omega arith) (λ h. omega arith)
+    by_rest (y ∷ ys) l = omega arith
 
 -- ## Dated attempts
 
@@ -98,18 +94,15 @@ all_dated w sound d =
     let opened = opens w.actors in
     dated_both w.limits.retries [] w.attempts.ended opened d.ended
     (subst (λ (l : List Attempt). AreDated w.limits.retries l opened) (append-nil w.attempts.ended) (open_dated w.limits.retries 0 w.attempts.ended [] opened tt (are_open sound).by_actor
-    (opens_each (IsDated w.limits.retries w.attempts.ended) w.actors (λ place a row e here. ((d.each place a e).opened row here).dated))))
+    (opens_each (AllByRecursion (IsDated w.limits.retries w.attempts.ended)) tt w.actors (λ place a row e here xs rest. (((d.each place a e).opened row here).dated, rest)))))
 
 -- and of each no more blocks ran again than may
-few_open : (most : ℕ) (xs : List Attempt) → AllByRecursion (λ (row : Attempt). length row.restarts ≤ most) xs → RestartAtMost most xs
-few_open most [] each = tt
-few_open most (x ∷ xs) each = (each.0, few_open most xs each.1)
 
 pub all_few : {P : Type 0} {rules : Rules P} (w : World P) → AreActors rules w.cells w.attempts w.actors → CommitsInOrder w → IsDatedWorld w → RestartAtMost w.limits.restarts (attempts_of w)
 all_few w sound commits d =
     few_both w.limits.restarts w.attempts.ended (opens w.actors) d.few
-    (few_open w.limits.restarts (opens w.actors) (opens_each (λ (row : Attempt). length row.restarts ≤ w.limits.restarts) w.actors
-    (λ place a row e here. (let s = (sound.each place a e).sound in let few = s.acts.few row here in let most = s.tied.settled.few in let same : a.engine.restarts ≡ w.limits.restarts = ap (λ (l : Limits). l.restarts) (commits.limits place a e) in omega arith))))
+    (opens_each (RestartAtMost w.limits.restarts) tt w.actors (λ place a row e here xs rest.
+    (let s = (sound.each place a e).sound in let few = s.acts.few row here in let most = s.tied.settled.few in let same = ap (λ (l : Limits). l.restarts) (commits.limits place a e) in (omega arith, rest))))
 
 -- ## An event
 
@@ -125,25 +118,11 @@ module _ {P : Type 0} (k clock : ℕ) (r : Rows) (a : Actor P) (counted : count_
       → (nth ≡ tried_in (up_to_last a.run.thread r.ended) + 1 → count_committed (up_to_last a.run.thread r.ended) ≡ clock / 2) → IsDatedActor k r a
   between_dated nth b later few at_once = record {
     opened = λ row e. absurd (none-some row (sym b.none ∙ e));
-    next = λ on row e.
-        (let is = b.opens row e in
-        let thread : row.thread ≡ a.run.thread = ap (λ (x : Attempt). x.thread) is in
-        let tries : row.nth ≡ nth = ap (λ (x : Attempt). x.nth) is in
-        let began : row.began ≡ clock / 2 = ap (λ (x : Attempt). x.began) is in
-        let led : up_to_last row.thread r.ended ≡ up_to_last a.run.thread r.ended = ap (λ (t : ℕ). up_to_last t r.ended) thread in
-        let tried : tried_in (up_to_last row.thread r.ended) ≡ tried_in (up_to_last a.run.thread r.ended) = ap tried_in led in
-        let count : count_committed (up_to_last row.thread r.ended) ≡ count_committed (up_to_last a.run.thread r.ended) = ap count_committed led in
-        record {
-          thread = thread;
-          nth = tries ∙ sym b.tries;
-          dated = record {
-            later = omega arith;
-            few = omega arith;
-            after = (let l = last_few a.run.thread r.ended in omega arith);
-            by_now = omega arith;
-            at_once = λ e. began ∙ (sym (at_once (sym tries ∙ (e ∙ ap (λ (n : ℕ). n + 1) tried))) ∙ sym count);
-          };
-        });
+    next = λ on row e. subst (IsTry k r a) (sym (b.opens row e)) (record {
+      thread = refl;
+      nth = sym b.tries;
+      dated = record { later = later; few = few; after = (let l = last_few a.run.thread r.ended in omega arith); by_now = omega arith; at_once = λ f. sym (at_once f) };
+    });
   }
 
   -- the nth try came to nothing
@@ -154,18 +133,13 @@ module _ {P : Type 0} (k clock : ℕ) (r : Rows) (a : Actor P) (counted : count_
 
 module _ {P : Type 0} (k clock clock' : ℕ) (p : Prior) (r : Rows) (a : Actor P) (limit : p.retries ≡ k) (counted : count_committed r.ended ≡ clock' / 2)
     (now : (row : Attempt) → current_of p.active p.pending ≡ Some row → (row.thread ≡ a.run.thread) × (row.nth ≡ p.nth) × IsDated k p.ended row) (some : current_of p.active p.pending ≡ None → ⊥) (all : AreDated k [] p.ended) where
-  -- no attempt ended
-  still_dated : r.ended ≡ p.ended → (row : Attempt) → IsDated k p.ended row → IsDated k r.ended row
-  still_dated same row d = subst (λ (l : List Attempt). IsDated k l row) (sym same) d
-
   begun : (row : Attempt) → p.active ≡ None → p.pending ≡ Some row → current_of p.active p.pending ≡ Some row
   begun row none was = ap (λ (o : Option Attempt). current_of o p.pending) none ∙ was
 
   lost : (row : Attempt) → p.active ≡ None → p.pending ≡ Some row → r.ended ≡ p.ended → TriesAgain (nat_lt p.retries p.nth) clock' p.nth a → IsDatedActor k r a
   lost row none was same t =
       let d = now row (begun row none was) in
-      let led : up_to_last a.run.thread r.ended ≡ up_to_last row.thread p.ended = ap (up_to_last a.run.thread) same ∙ ap (λ (t : ℕ). up_to_last t p.ended) (sym d.0) in
-      let tried : tried_in (up_to_last a.run.thread r.ended) ≡ tried_in (up_to_last row.thread p.ended) = ap tried_in led in
+      let led = ap (λ (l : List Attempt). tried_in (up_to_last a.run.thread l)) same ∙ ap (λ (t : ℕ). tried_in (up_to_last t p.ended)) (sym d.0) in
       let later : tried_in (up_to_last a.run.thread r.ended) < p.nth = (let l = d.2.later in let n = d.1 in omega arith) in
       again_dated k clock' r a counted p.nth (nat_lt p.retries p.nth) (ap (λ (n : ℕ). nat_lt n p.nth) (sym limit)) t (omega arith) (λ e. absurd (omega arith))
 
@@ -177,7 +151,7 @@ module _ {P : Type 0} (k clock clock' : ℕ) (p : Prior) (r : Rows) (a : Actor P
         opened = λ row e. absurd (none-some row (sym t.still ∙ e));
         next = λ on row e.
             (let same : t.row ≡ row = same_Some _ _ (sym t.now ∙ e) in
-            subst (IsTry k r a) same (record { thread = d.0; nth = d.1 ∙ sym t.tries; dated = still_dated t.ended t.row d.2 }));
+            subst (IsTry k r a) same (record { thread = d.0; nth = d.1 ∙ sym t.tries; dated = subst (λ (l : List Attempt). IsDated k l t.row) (sym t.ended) d.2 }));
       }
   dated_actor (runs t) =
       let d = now t.row t.was in
@@ -187,17 +161,14 @@ module _ {P : Type 0} (k clock clock' : ℕ) (p : Prior) (r : Rows) (a : Actor P
             subst (IsTry k r a) same (record {
               thread = (continues_same clock t.row t.row' t.continues).thread ∙ d.0;
               nth = (continues_same clock t.row t.row' t.continues).nth ∙ (d.1 ∙ sym t.tries);
-              dated = still_dated t.ended t.row' (dated_as k p.ended t.row t.row' (continues_same clock t.row t.row' t.continues) d.2);
+              dated = subst (λ (l : List Attempt). IsDated k l t.row') (sym t.ended) (dated_as k p.ended t.row t.row' (continues_same clock t.row t.row' t.continues) d.2);
             }));
         next = λ on row e. absurd (none-some row (sym (open_only _ t.now) ∙ e));
       }
   dated_actor (over t) = by_outcome t.row'.outcome refl t.after
     where
-      thread : t.row'.thread ≡ a.run.thread
-      thread = (continues_same clock t.row t.row' t.continues).thread ∙ (now t.row t.was).0
-
       led : up_to_last a.run.thread r.ended ≡ p.ended ++ t.row' ∷ []
-      led = ap (up_to_last a.run.thread) t.ended ∙ last_own a.run.thread p.ended t.row' thread
+      led = ap (up_to_last a.run.thread) t.ended ∙ last_own a.run.thread p.ended t.row' ((continues_same clock t.row t.row' t.continues).thread ∙ (now t.row t.was).0)
 
       count : count_committed (up_to_last a.run.thread r.ended) ≡ clock' / 2
       count = ap count_committed (led ∙ sym t.ended) ∙ counted
@@ -225,13 +196,7 @@ module _ {P : Type 0} (k clock clock' : ℕ) (p : Prior) (r : Rows) (a : Actor P
 
   -- what is true of those that had ended is true of all, if it is with one that ends
   by_ended : (Q : List Attempt → Type 0) → Q p.ended → ((row row' : Attempt) → current_of p.active p.pending ≡ Some row → Continues clock row row' → length row'.restarts ≤ p.restarts → Q (p.ended ++ row' ∷ [])) → Tries (Continues clock) clock p clock' r a → Q r.ended
-  by_ended Q before more (over t) = subst Q (sym t.ended) (more t.row t.row' t.was t.continues t.few)
-  by_ended Q before more (between t) = subst Q (sym t.ended) before
-  by_ended Q before more (begins t) = subst Q (sym t.ended) before
-  by_ended Q before more (runs t) = subst Q (sym t.ended) before
-  by_ended Q before more (turned_away t) = subst Q (sym t.ended) before
-  by_ended Q before more (outrun t) = subst Q (sym t.ended) before
-  by_ended Q before more (shut_out t) = subst Q (sym t.ended) before
+  by_ended Q before more tries = elim (some_ended clock clock' p r a tries) [ inl still ↦ subst Q (sym still.0) before | inr t ↦ subst Q (sym t.ended) (more t.row t.row' t.was t.continues t.few) ]
 
   pub dated_ended : Tries (Continues clock) clock p clock' r a → AreDated k [] r.ended
   dated_ended = by_ended (AreDated k []) all (λ row row' was c few. dated_both k [] p.ended (row' ∷ []) all (dated_as k p.ended row row' (continues_same clock row row' c) (now row was).2, tt))
@@ -260,21 +225,12 @@ module _ {P : Type 0} (rules : Rules P) where
 
 module _ {P : Type 0} {rules : Rules P} (w : World P) (kept : IsWorld rules w) (i : ℕ) (got new : Actor P) (here : slice_get w.actors i ≡ Some got) (cells' : Cells) (r' : Rows) (events : ℕ)
     (event : IsEvent rules w.cells w.attempts got cells' r' new) (waits : is_waiting got.status ≡ true) (counted : count_committed r'.ended ≡ cells'.clock / 2) where
-  dated_now : (row : Attempt) → current_of (active_of got) (pending_of got) ≡ Some row → IsTry w.limits.retries w.attempts got row
-  dated_now row e = by_open (active_of got) refl e
-    where
-      d : IsDatedActor w.limits.retries w.attempts got
-      d = kept.dated.each i got here
-
-      by_open : (o : Option Attempt) → active_of got ≡ o → current_of o (pending_of got) ≡ Some row → IsTry w.limits.retries w.attempts got row
-      by_open None none e = d.next (waiting_going got.status waits) row e
-      by_open (Some x) some e = d.opened row (some ∙ e)
-
-  same : new.run.thread ≡ got.run.thread
-  same = event.others.thread
-
   tries_now : (row : Attempt) → current_of (active_of got) (pending_of got) ≡ Some row → (row.thread ≡ new.run.thread) × (row.nth ≡ got.run.nth) × IsDated w.limits.retries w.attempts.ended row
-  tries_now row e = (let t = dated_now row e in (t.thread ∙ sym same, t.nth, t.dated))
+  tries_now row e = (let t = by_open (active_of got) refl e in (t.thread ∙ sym event.others.thread, t.nth, t.dated))
+    where
+      by_open : (o : Option Attempt) → active_of got ≡ o → current_of o (pending_of got) ≡ Some row → IsTry w.limits.retries w.attempts got row
+      by_open None none e = (kept.dated.each i got here).next (waiting_going got.status waits) row e
+      by_open (Some x) some e = (kept.dated.each i got here).opened row (some ∙ e)
 
   some_now : current_of (active_of got) (pending_of got) ≡ None → ⊥
   some_now none =
@@ -322,9 +278,8 @@ dated_first {P} w zero_clock none first = record {
   ended = subst (AreDated w.limits.retries []) (sym none) tt;
   few = subst (RestartAtMost w.limits.restarts) (sym none) tt;
   each = λ place a e.
-      (let led : up_to_last a.run.thread w.attempts.ended ≡ [] = ap (up_to_last a.run.thread) none in
-      let tried : tried_in (up_to_last a.run.thread w.attempts.ended) ≡ 0 = ap tried_in led in
-      let count : count_committed (up_to_last a.run.thread w.attempts.ended) ≡ 0 = ap count_committed led in
-      let counted : count_committed w.attempts.ended ≡ w.cells.clock / 2 = (let c : count_committed w.attempts.ended ≡ 0 = ap count_committed none in omega arith) in
-      between_dated w.limits.retries w.cells.clock w.attempts a counted 1 (first place a e) (omega arith) (omega arith) (λ f. omega arith));
+      (let tried = ap (λ (l : List Attempt). tried_in (up_to_last a.run.thread l)) none in
+      let count = ap (λ (l : List Attempt). count_committed (up_to_last a.run.thread l)) none in
+      let all = ap count_committed none in
+      between_dated w.limits.retries w.cells.clock w.attempts a (omega arith) 1 (first place a e) (omega arith) (omega arith) (λ f. omega arith));
 }

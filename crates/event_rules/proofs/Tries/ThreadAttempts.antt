@@ -1,7 +1,6 @@
 -- Of all attempts those of one thread, the open attempts of actors, and the actors that attempts are of.
 use Rattle.std.proofs.Common.{◌≡◌, ℕ, zero, suc, ◌+◌, ◌<◌, ◌≤◌, List, [], ◌∷◌, ◌++◌, Option, None, Some, slice_get, refl, sym, ap, subst, ◌∙◌, arith, eq-eqb, if◌then◌else◌, Bool}
-use Rattle.event_rules.proofs.Common.{Actor, AllByRecursion, AllOf, AreActors, AreFrom, AreOfActors, AreOpen, AreUnfinished, Attempt, Cells, Rows, Rules, active_of, ne_eqb, of_thread, opens, row_is_of, row_unfinished, same_Some, with_open}
-use Rattle.tx_attempts.specs.declared.attempt.Outcome.TheVariants.{Unfinished}
+use Rattle.event_rules.proofs.Common.{Actor, AllOf, AreActors, AreFrom, AreOfActors, AreOpen, AreUnfinished, Attempt, Cells, Rows, Rules, active_of, ne_eqb, of_thread, opens, row_is_of, row_unfinished, same_Some, with_open}
 
 -- ## The attempts of one thread
 
@@ -25,9 +24,9 @@ from_with : (n : ℕ) (xs : List Attempt) → AreFrom (n + 1) xs → (o : Option
 from_with n xs later None mine = from_less n (n + 1) xs (omega arith) later
 from_with n xs later (Some row) mine = (let same = mine row refl in (omega arith, subst (λ (k : ℕ). AreFrom (k + 1) xs) (sym same) later))
 
-each_with : (Q : Attempt → Type 0) (xs : List Attempt) → AllByRecursion Q xs → (o : Option Attempt) → ((row : Attempt) → o ≡ Some row → Q row) → AllByRecursion Q (with_open o xs)
-each_with Q xs later None here = later
-each_with Q xs later (Some row) here = (here row refl, later)
+each_with : (R : List Attempt → Type 0) (xs : List Attempt) → R xs → (o : Option Attempt) → ((row : Attempt) → o ≡ Some row → R (row ∷ xs)) → R (with_open o xs)
+each_with R xs later None here = later
+each_with R xs later (Some row) here = here row refl
 
 -- of another thread none is put before them
 other_with : (thread n : ℕ) (xs : List Attempt) → (n ≡ thread → ⊥) → (o : Option Attempt) → ((row : Attempt) → o ≡ Some row → row.thread ≡ n) → of_thread thread (with_open o xs) ≡ of_thread thread xs
@@ -45,10 +44,10 @@ module _ {P : Type 0} where
   opens_from n [] at = tt
   opens_from n (a ∷ rest) at = from_with n (opens rest) (opens_from (n + 1) rest at.1) (active_of a) at.0
 
-  -- each of them is one of an actor
-  pub opens_each : (Q : Attempt → Type 0) (actors : List (Actor P)) → ((place : ℕ) (a : Actor P) (row : Attempt) → slice_get actors place ≡ Some a → active_of a ≡ Some row → Q row) → AllByRecursion Q (opens actors)
-  opens_each Q [] each = tt
-  opens_each Q (a ∷ rest) each = each_with Q (opens rest) (opens_each Q rest (λ place. each (suc place))) (active_of a) (λ row. each 0 a row refl)
+  -- each of them is one of an actor: what such a one keeps true of those after it is true of all
+  pub opens_each : (R : List Attempt → Type 0) → R [] → (actors : List (Actor P)) → ((place : ℕ) (a : Actor P) (row : Attempt) → slice_get actors place ≡ Some a → active_of a ≡ Some row → (xs : List Attempt) → R xs → R (row ∷ xs)) → R (opens actors)
+  opens_each R none [] each = none
+  opens_each R none (a ∷ rest) each = (let later = opens_each R none rest (λ place. each (suc place)) in each_with R (opens rest) later (active_of a) (λ row e. each 0 a row refl e (opens rest) later))
 
   -- where no actor has one there is none
   pub opens_none : (actors : List (Actor P)) → ((place : ℕ) (a : Actor P) → slice_get actors place ≡ Some a → active_of a ≡ None) → opens actors ≡ []
@@ -88,12 +87,8 @@ module _ {P : Type 0} {rules : Rules P} {cells : Cells} {r : Rows} {actors : Lis
   pub are_open : AreOpen (opens actors)
   are_open = record {
     by_actor = opens_from 0 actors stand_there;
-    unfinished = all_unfinished (opens actors) (opens_each (λ (row : Attempt). row.outcome ≡ Unfinished) actors (λ place a row e here. row_unfinished _ a row (s.each place a e).sound.kept.row here));
+    unfinished = opens_each AreUnfinished tt actors (λ place a row e here xs rest. (row_unfinished _ a row (s.each place a e).sound.kept.row here, rest));
   }
-    where
-      all_unfinished : (xs : List Attempt) → AllByRecursion (λ (row : Attempt). row.outcome ≡ Unfinished) xs → AreUnfinished xs
-      all_unfinished [] all = tt
-      all_unfinished (x ∷ xs) all = (all.0, all_unfinished xs all.1)
 
 -- ## The actors of attempts
 
@@ -104,7 +99,3 @@ of_actors_both n (x ∷ xs) ys f g = (f.0, of_actors_both n xs ys f.1 g)
 pub of_actors_all : (n thread : ℕ) (xs : List Attempt) → thread < n → AllOf thread xs → AreOfActors n xs
 of_actors_all n thread [] l all = tt
 of_actors_all n thread (x ∷ xs) l all = ((let same = all.0 in omega arith), of_actors_all n thread xs l all.1)
-
-pub of_actors_each : (n : ℕ) (xs : List Attempt) → AllByRecursion (λ (row : Attempt). row.thread < n) xs → AreOfActors n xs
-of_actors_each n [] all = tt
-of_actors_each n (x ∷ xs) all = (all.0, of_actors_each n xs all.1)

@@ -1,25 +1,17 @@
 -- What a call of an actor, up to its first step, and a step of it do to its try.
-use Rattle.std.proofs.Common.{unwrap_or, append-nil, ◌++◌, ◌≡◌, ℕ, ◌+◌, ◌/◌, ◌%◌, ◌≤◌, ◌==◌, if◌then◌else◌, Bool, true, false, Option, None, Some, refl, sym, ap, subst, ◌∙◌, arith}
-use Rattle.event_rules.proofs.Common.{Actor, Answer, Answers, Asks, Attempt, Begin, BeginsAt, Busy, Call, Cells, Conflict, Continues, Core, Ended, EndsAt, Extends, Full, HasRow, IsDone, IsHanded, IsSound, Kept, Next, Phase, PlayerRun, Prior, Props, ReadsAt, Ready, Replied, Reply, Restarted, Rows, Rules, Stage, Starves, Status, Step, Tells, Tries, Waits, active_of, asked_at, asked_begun, begins, begun, begun_in, cond-true, continues_as, current_open, ending_of, extends_calls, extends_twice, false_from_ne_true, found, handed_is, in_transaction, irrevocable_room, may_go, none-some, open_in, over_as, pending_of, prior_of, ran_on, replied_outside, reserved, restarts_left, stage_of, stage_open, stage_out, stand_of, stays, stays_between, stays_open, told, told_nth, told_pending, told_stage, told_tries, tries_from, tries_later, with_room}
+use Rattle.std.proofs.Common.{[], unwrap_or, append-nil, ◌++◌, ◌≡◌, ℕ, ◌+◌, ◌/◌, ◌%◌, ◌≤◌, ◌==◌, if◌then◌else◌, Bool, true, false, Option, None, Some, refl, sym, ap, subst, ◌∙◌, arith}
+use Rattle.event_rules.proofs.Common.{Actor, Answer, Answers, Asks, Attempt, Begin, BeginsAt, Busy, Call, Cells, Conflict, Continues, Core, EndsAt, Extends, Full, HasRow, IsDone, IsHanded, IsSound, Kept, Next, Phase, PlayerRun, Prior, Props, ReadsAt, Ready, Replied, Reply, Restarted, Rows, Rules, Stage, Starves, Status, Step, Tells, Tries, Waits, active_of, asked_at, asked_begun, begins, begun, begun_in, cond-true, continues_as, current_open, ending_of, extends_calls, extends_twice, false_from_ne_true, found, handed_is, in_transaction, irrevocable_room, may_go, none-some, not_at_once, not_closed, open_in, over_as, pending_of, prior_of, ran_on, replied_outside, reserved, restarts_left, stage_of, stage_open, stage_out, stand_of, stays_between, stays_open, told, told_nth, told_pending, told_stage, told_tries, tries_from, tries_later, with_room}
 use Rattle.tx_attempts.specs.declared.attempt.Outcome.TheVariants as outcomes
 use Rattle.tx_runs.specs.declared.ending.End.TheVariants as ends
-use Rattle.event_rules.proofs.Engines.RestartedEngines.{not_at_once}
-use Rattle.event_rules.proofs.Engines.TiedEngines.{limit_same, snapshot_still}
+use Rattle.event_rules.proofs.Engines.TiedEngines.{limit_same, undone_keeps}
 use Rattle.norec_core.specs.Endings.{EndsSo, ending_after, ending_at, ending_from}
 use Rattle.norec_core.specs.Phases as at
-use Rattle.event_rules.proofs.Engines.SoundSteps.{IsCalling, call_taken, mid, rests, IsStepping, limit_is, mid_step, same, step_taken, waits, went}
-use Rattle.event_rules.proofs.Engines.Intakes.{HasAnswered, HasTaken, recorded}
-use Rattle.event_rules.proofs.Tries.TryEnds.{back_tries, begin_tries, begun_or_not, is_between, open_tries, stops_try}
-use Rattle.event_rules.proofs.Tries.AnswerEndings.{not_finished}
+use Rattle.event_rules.proofs.Engines.SoundSteps.{IsCalling, call_taken, mid, rests, IsStepping, mid_step, same, step_taken, waits, went}
+use Rattle.event_rules.proofs.Engines.Intakes.{HasAnswered, HasTaken, not_finished, recorded}
+use Rattle.event_rules.proofs.Tries.TryEnds.{back_tries, begin_tries, begun_or_not, ends_try, is_between, open_tries}
 
 module _ {P : Type 0} (rules : Rules P)
     (cells : Cells) (r0 : Rows) (old : Actor P) (sound : IsSound rules cells r0 old) (ready : old.status ≡ Ready) where
-  -- ## The player has no more calls
-
-  pub finish_tries : Tries Extends cells.clock (prior_of r0 old) cells.clock r0 (record old { status = Ended ends.Finished })
-  finish_tries =
-      stays old.engine.clock cells.clock cells.clock r0 r0 old (record old { status = Ended ends.Finished }) refl refl (in_transaction old.engine) sound.kept.row (rests sound ready).nothing refl (rests sound ready).nothing refl (λ e. absurd (cc)) (λ e. absurd (cc))
-
   -- ## Memory was refused
 
   pub starve_tries : (r1 : Rows) (last : Actor P) → Starves rules r0 old r1 last → Tries Extends cells.clock (prior_of r0 old) cells.clock r1 last
@@ -38,10 +30,10 @@ module _ {P : Type 0} (rules : Rules P)
           let x = s.stops i in
           let reached = sound.tied.settled.reached in
           let late = sound.tied.late in
-          let still = snapshot_still old.engine last.engine s.engine in
-          stops_try old.engine.clock cells.clock cells.clock r0 r1 old last h.0 (last.engine.snapshot / 2) outcomes.NoMemory (ran_on h.0.ran h.0.restarts last.engine.actions.ran) _ refl h.1
+          let still = (undone_keeps old.engine last.engine s.engine).6 in
+          ends_try old.engine.clock cells.clock cells.clock r0 r1 old last h.0 h.0.calls.list [] (sym (append-nil h.0.calls.list)) (last.engine.snapshot / 2) outcomes.NoMemory (ran_on h.0.ran h.0.restarts last.engine.actions.ran) _ refl h.1
           (x.ended ∙ ap (λ (z : Stage). r0.ended ++ over_as outcomes.NoMemory (stand_of last.engine) z) (stage_open _ h.1)) refl
-          (refl, omega arith) refl (let few = sound.acts.few h.0 h.1 in let most = sound.tied.settled.few in omega arith) (record { none = ap open_in (told_stage x); status = s.status })
+          (refl, omega arith) (not_closed outcomes.NoMemory refl h.0.calls.list) (let few = sound.acts.few h.0 h.1 in let most = sound.tied.settled.few in omega arith) (record { none = ap open_in (told_stage x); status = s.status })
       by_row false true e i h = absurd (let open_then = (sound.tied.settled.holder (sound.tied.settled.irrevocable i).0).0 in let both : true ≡ false = sym open_then ∙ e in cc)
       by_row false false e i h =
           let x = s.stops i in
@@ -89,24 +81,20 @@ module _ {P : Type 0} {rules : Rules P} {cells : Cells} {r0 r : Rows} {old a : A
   answer_tries : (answer : Answer) → what ≡ Answers answer → {r1 : Rows} {last : Actor P} → HasAnswered rules (in_transaction old.engine) cells cells r r1 (mid m) a last call answer → Tries Extends cells.clock (prior_of r0 old) cells.clock r1 last
   answer_tries answer is {r1} {last} t = by_open (in_transaction old.engine) refl m.sound.kept.row t
     where
-      limit : a.engine.max_commits ≡ old.engine.max_commits
-      limit = (limit_same (mid m) a.engine what m.asks.called.proceeds).0
-
       by_open : (b : Bool) → in_transaction old.engine ≡ b → HasRow b old → HasAnswered rules b cells cells r r1 (mid m) a last call answer → Tries Extends cells.clock (prior_of r0 old) cells.clock r1 last
       by_open true e h t =
           let x = still_open h.0 h.1 in
-          tries_from Extends extends_twice cells.clock cells.clock cells.clock (record (prior_of r a) { seen = old.engine.clock }) (prior_of r0 old) r1 last h.0 x.0 x.1 x.2 (current_open old h.1) m.asks.ended nth_same (ap (λ (z : PlayerRun P). z.retries) m.asks.run) (limit_same (mid m) a.engine what m.asks.called.proceeds).3 refl
-          (λ at o. subst (λ (n : ℕ). EndsAt n cells.clock cells.clock at o) limit) (open_tries old.engine.clock answer (not_at_once what m.asks.called.at_once answer is) t)
+          let kept = limit_same (mid m) a.engine what m.asks.called.proceeds in
+          tries_from Extends extends_twice cells.clock cells.clock cells.clock (record (prior_of r a) { seen = old.engine.clock }) (prior_of r0 old) r1 last h.0 x.0 x.1 x.2 (current_open old h.1) m.asks.ended nth_same (ap (λ (z : PlayerRun P). z.retries) m.asks.run) kept.3 refl
+          (λ at o. subst (λ (n : ℕ). EndsAt n cells.clock cells.clock at o) kept.0) (open_tries old.engine.clock answer (not_at_once what m.asks.called.at_once answer is) t)
       by_open false e h t =
           let reply = replied_outside old.engine call answer e (subst (EndsSo (ending_at old.engine call)) is m.asks.called.ends) in
           shut reply.0 (subst (HasAnswered rules false cells cells r r1 (mid m) a last call) reply.1 t)
         where
-          closed : in_transaction a.engine ≡ false
-          closed = false_from_ne_true (in_transaction a.engine) (λ o. absurd (let f : true ≡ false = sym (m.asks.called.stays.opens o) ∙ e in cc))
-
           shut : (reply : Replied) → HasAnswered rules false cells cells r r1 (mid m) a last call (Reply reply) → Tries Extends cells.clock (prior_of r0 old) cells.clock r1 last
           shut reply t =
               let x = begun_or_not reply t in
+              let closed = false_from_ne_true (in_transaction a.engine) (λ o. absurd (let f : true ≡ false = sym (m.asks.called.stays.opens o) ∙ e in cc)) in
               stays_between old.engine.clock cells.clock cells.clock r0 r1 old last (x.ended ∙ m.asks.ended) refl h (rests m.sound m.ready).nothing
               (is_between rules a last false t.settled cells.clock old.run.nth closed x.status (x.nth ∙ nth_same))
 
@@ -143,25 +131,22 @@ module _ {P : Type 0} {rules : Rules P} {cells : Cells} {r : Rows} {old : Actor 
   went_on : (step : Step) → HasTaken rules (in_transaction old.engine) cells cells' r (mid_step m) (on status) call (Asks step) → Tried r (on (Waits call step))
   went_on step t = tries_later (continues_as cells.clock) (by_row (in_transaction old.engine) m.sound.kept.row)
     where
-      half : cells'.clock / 2 ≡ cells.clock / 2
-      half = t.moves.keeps t.proceeds.unfreed
-
       by_pending : (p : Option Attempt) → pending_of old ≡ p → active_of old ≡ None → Tries Extends cells.clock (prior_of r old) cells'.clock r (on (Waits call step))
-      by_pending None p none = stays_between old.engine.clock cells.clock cells'.clock r r old (on (Waits call step)) refl half none p
+      by_pending None p none = stays_between old.engine.clock cells.clock cells'.clock r r old (on (Waits call step)) refl (t.moves.keeps t.proceeds.unfreed) none p
           (record { none = none; tries = refl; opens = λ row e. absurd (let n = sym p ∙ e in cc); goes_on = λ e. absurd (cc) })
-      by_pending (Some row) p none = begins (record { none = none; row = row; was = p; now = p; ended = refl; still = none; half = half; tries = refl; on = refl })
+      by_pending (Some row) p none = begins (record { none = none; row = row; was = p; now = p; ended = refl; still = none; half = t.moves.keeps t.proceeds.unfreed; tries = refl; on = refl })
 
       by_row : (b : Bool) → HasRow b old → Tries Extends cells.clock (prior_of r old) cells'.clock r (on (Waits call step))
-      by_row true h = stays_open old.engine.clock cells.clock cells'.clock r r old (on (Waits call step)) refl half h.0 h.0 (current_open old h.1) h.1 (extends_calls h.0 h.0.calls h.0.at refl) refl (λ e. absurd (cc)) (λ e. absurd (cc))
+      by_row true h = stays_open old.engine.clock cells.clock cells'.clock r r old (on (Waits call step)) refl (t.moves.keeps t.proceeds.unfreed) h.0 h.0 (current_open old h.1) h.1 (extends_calls h.0 h.0.calls h.0.at refl) refl (λ e. absurd (cc)) (λ e. absurd (cc))
       by_row false h = by_pending (pending_of old) refl h
 
   answered_on : (answer : Answer) → what ≡ Answers answer → {r1 : Rows} {last : Actor P} → HasAnswered rules (in_transaction old.engine) cells cells' r r1 (mid_step m) (on status) last call answer → Tried r1 last
   answered_on answer is {r1} {last} t =
-      subst (λ (p : Prior). Tries (Continues cells.clock) cells.clock p cells'.clock r1 last) (λ i. record (prior_of r old) { max_commits = limit_is m i; restarts = most i }) (by_open (in_transaction old.engine) refl t)
+      let kept = limit_same (mid_step m) new what (went m) in
+      let limit = kept.0 ∙ (same m).max_commits in
+      let most = kept.3 ∙ (same m).restarts in
+      subst (λ (p : Prior). Tries (Continues cells.clock) cells.clock p cells'.clock r1 last) (λ i. record (prior_of r old) { max_commits = limit i; restarts = most i }) (by_open (in_transaction old.engine) refl t)
     where
-      most : new.restarts ≡ old.engine.restarts
-      most = (limit_same (mid_step m) new what (went m)).3 ∙ (same m).restarts
-
       handed : IsHanded old.engine (mid_step m)
       handed = handed_is old.engine m.step (found cells m.step)
 

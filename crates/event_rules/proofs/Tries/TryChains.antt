@@ -1,9 +1,8 @@
 -- Local work after an event, or after other local work: what becomes of the try.
 -- Also what holds of actors that have taken no step.
-use Rattle.std.proofs.Common.{◌≡◌, ℕ, ◌+◌, ◌/◌, Bool, true, false, nat_lt, List, [], ◌∷◌, ◌++◌, Option, None, Some, refl, sym, ap, subst, ◌∙◌, arith, zero, suc}
-use Rattle.event_rules.proofs.Common.{Actor, Attempt, Cells, EndsAt, Extends, GoesOnAfter, IsBetween, IsSound, NoMemory, Outcome, Prior, Ready, Rows, Rules, Tries, TriesAgain, begins, between, current_of, ending_in, ending_of, in_transaction, outrun, over, pending_of, prior_of, runs, shut_out, stays, tries_from, turned_away}
+use Rattle.std.proofs.Common.{◌≡◌, ℕ, ◌+◌, ◌/◌, Bool, true, false, nat_lt, List, [], ◌∷◌, ◌++◌, Option, None, Some, sym, ap, subst, ◌∙◌, arith, zero, suc}
+use Rattle.event_rules.proofs.Common.{Actor, Attempt, EndsAt, Extends, GoesOnAfter, IsBetween, NoMemory, Outcome, Prior, Ready, Rows, Tries, TriesAgain, begins, between, current_of, ending_in, ending_of, outrun, over, pending_of, prior_of, runs, shut_out, tries_from, turned_away}
 use Rattle.tx_attempts.specs.declared.attempt.Outcome.TheVariants as outcomes
-use Rattle.event_rules.proofs.Engines.SoundSteps.{rests}
 use Rattle.event_rules.proofs.Engines.Intakes.{still_going}
 
 -- none found no memory
@@ -69,10 +68,3 @@ module _ {P : Type 0} (IsLater : Attempt → Attempt → Type 0) (then_on : (x y
   tries_then (shut_out t) = still_going ready (ap ending_of t.after.status)
   tries_then (runs t) =
       tries_from IsLater then_on clock clock1 clock1 (prior_of r1 a1) p r2 a2 t.row t.row' t.now t.continues t.was t.ended t.tries retries most t.half (λ at o e. subst (λ (n : ℕ). EndsAt n clock clock1 at o) limit (ends_on a1.engine.max_commits clock clock1 at o t.half e)) work
-
--- no work
-module _ {P : Type 0} (rules : Rules P)
-    (cells : Cells) (r : Rows) (a : Actor P) (sound : IsSound rules cells r a) (ready : a.status ≡ Ready) where
-  pub tries_still : Tries Extends cells.clock (prior_of r a) cells.clock r a
-  tries_still =
-      stays a.engine.clock cells.clock cells.clock r r a a refl refl (in_transaction a.engine) sound.kept.row (rests sound ready).nothing refl (rests sound ready).nothing refl (still_going ready) (still_going ready)

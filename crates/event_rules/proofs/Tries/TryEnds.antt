@@ -1,13 +1,13 @@
 -- What an answer does to the try that its call belongs to.
 use Rattle.tx_runs.specs.Tallies.{begins as begins_at}
 use Rattle.std.proofs.Common.{true≢false, inl, inr, ◌≡◌, ℕ, ◌+◌, ◌*◌, ◌/◌, ◌%◌, ◌<◌, ◌≤◌, Bool, true, false, nat_lt, if◌then◌else◌, is_some, List, [], ◌∷◌, ◌++◌, length, map, Option, None, Some, refl, sym, ap, subst, ◌∙◌, arith, append-nil, ◌⊎◌}
-use Rattle.event_rules.proofs.Common.{Actor, Agrees, Answer, Attempt, BeganIn, Begin, Busy, Call, CallRecord, Cells, ClosedBy, Commit, Committed, Conflict, Conflicts, ConflictsIn, Continues, Core, EndsAt, Extends, Frame, Full, GoesOnAfter, HasPoints, HasRow, IsBegin, IsBetween, IsLost, IsReady, IsRestart, IsSettledBy, IsTied, Outcome, Props, Ran, Ready, Replied, Replies, Reply, Restarted, RestsAs, Rows, Rules, Savepoint, Status, TakesTo, Tally, Tries, TriesAgain, WantsClock, active_of, again_of, begin_call, begin_goes, begin_opens, by_wrote, call_begins, cancels, closed, continues_back, current_open, current_shut, cut_back, ending_as, ending_of, extends_calls, extends_to, goes_for, in_transaction, is_begin, is_done, is_tried, may_go, none-some, none_inside, not_closed, open_in, outrun, over, pending_of, plain_reply, points_in, prior_of, ran_on, runs, shut_out, spent, stage_begun, stage_of, stage_open, stage_out, stand_at, stays_between, stays_open, taken_at, tally_at, tally_of, told_active, told_again, told_nth, told_pending, told_player, told_stage, tried, turned_away, with_call, within, within_at}
-use Rattle.event_rules.proofs.Engines.PlayerLaws.{deep_of, was_open}
+use Rattle.event_rules.proofs.Common.{Actor, Agrees, Answer, Attempt, BeganIn, Begin, Busy, Call, CallRecord, Cells, ClosedBy, Commit, Committed, Conflict, Conflicts, ConflictsIn, Continues, Core, EndsAt, Extends, Full, GoesOnAfter, HasPoints, HasRow, IsBegin, IsBetween, IsLost, IsReady, IsRestart, IsSettledBy, IsTied, Outcome, Props, Ran, Ready, Replied, Replies, Reply, Restarted, RestsAs, Rows, Rules, Savepoint, Status, TakesTo, Tally, Tries, TriesAgain, WantsClock, active_of, again_of, begin_call, begin_goes, begin_opens, by_wrote, call_begins, cancels, closed, continues_back, current_open, current_shut, cut_back, deep_of, ending_as, ending_of, extends_calls, extends_to, goes_for, in_transaction, is_begin, is_done, is_tried, may_go, none-some, none_inside, not_closed, open_in, outrun, over, pending_of, plain_reply, points_in, prior_of, ran_on, runs, shut_out, spent, stage_begun, stage_of, stage_open, stage_out, stand_at, stays_between, stays_open, taken_at, tally_at, tally_of, told_active, told_again, told_nth, told_pending, told_player, told_stage, tried, turned_away, was_open, with_call, within, within_at}
 use Rattle.itm_types.specs.declared.call.Reply.TheVariants as replies
 use Rattle.tx_attempts.specs.declared.attempt.Outcome.TheVariants as outcomes
 use Rattle.tx_runs.specs.declared.ending.End.TheVariants as ends
 use Rattle.world_rules.specs.Tries.{GoesBack}
 use Rattle.event_rules.proofs.Engines.Intakes.{HasAnswered, half_same, still_going}
+use Rattle.nest_frames.specs.Nest.{Frame}
 
 -- ## A try that ends
 
@@ -29,13 +29,6 @@ ends_try seen clock clock' r r' a a' row list more calls at outcome ran more_ran
   after = goes_for clock' (prior_of r a) (record (prior_of r a) { seen = seen }) a' refl refl outcome goes;
 })
 
--- and its block has not
-pub stops_try : {P : Type 0} (seen clock clock' : ℕ) (r r' : Rows) (a a' : Actor P) (row : Attempt) (at : ℕ) (outcome : Outcome) (ran more_ran : List Ran) → ran ≡ row.ran ++ more_ran
-    → active_of a ≡ Some row → r'.ended ≡ r.ended ++ record row { calls = spent row.calls; at = at; ran = ran; outcome = outcome } ∷ []
-    → at ≡ a'.engine.snapshot / 2 → EndsAt a.engine.max_commits clock clock' at outcome → is_done outcome ≡ false → length row.restarts ≤ a.engine.restarts → GoesOnAfter outcome clock' (prior_of r a) a' → Tries Extends clock (record (prior_of r a) { seen = seen }) clock' r' a'
-stops_try seen clock clock' r r' a a' row at outcome ran more_ran is was ended reads ends undone few goes =
-    ends_try seen clock clock' r r' a a' row row.calls.list [] (sym (append-nil row.calls.list)) at outcome ran more_ran is was ended reads ends (not_closed outcome undone row.calls.list) few goes
-
 pub next_try : {P : Type 0} (t : Tally P) (attempts : List Attempt) (retries : ℕ) {r r' : Rows} {a last : Actor P} → TakesTo (tried retries t attempts) r r' a last → (ending_of last.status ≡ Some ends.GaveUp → ⊥) → (last.status ≡ Ready) × (last.run.nth ≡ t.nth + 1)
 next_try t attempts retries x on = elim (is_tried t attempts retries x).either [ inl last_one ↦ absurd (on (ap ending_of last_one.1)) | inr more ↦ (more.1, more.2) ]
 
@@ -43,15 +36,12 @@ module _ {P : Type 0} (rules : Rules P) (a last : Actor P) (was : Bool) {before 
   none_active : in_transaction a.engine ≡ false → active_of last ≡ None
   none_active closed = subst (λ (b : Bool). HasRow b last) (ap in_transaction settled.engine ∙ closed) settled.kept.row
 
-  none_pending : last.status ≡ Ready → pending_of last ≡ None
-  none_pending ready = (let rest : IsReady rules last = subst (λ (s : Status). RestsAs rules s last) ready settled.rests in rest.nothing)
-
   -- the actor is between two tries
   pub is_between : (clock nth : ℕ) → in_transaction a.engine ≡ false → last.status ≡ Ready → last.run.nth ≡ nth → IsBetween clock nth last
   is_between clock nth closed ready tries = record {
     none = none_active closed;
     tries = tries;
-    opens = λ row e. absurd (none-some row (sym (none_pending ready) ∙ e));
+    opens = λ row e. absurd (let rest : IsReady rules last = subst (λ (s : Status). RestsAs rules s last) ready settled.rests in none-some row (sym rest.nothing ∙ e));
     goes_on = still_going ready;
   }
 
@@ -93,28 +83,26 @@ module _ {P : Type 0} {rules : Rules P} {cells cells' : Cells} {r r1 : Rows} {mi
 
   -- or without one
   stops : (outcome : Outcome) → r1.ended ≡ r.ended ++ ending_as outcome (stand_at false last.engine) m.answered.kept.row.0 ∷ [] → EndsAt a.engine.max_commits cells.clock cells'.clock (last.engine.snapshot / 2) outcome → is_done outcome ≡ false → GoesOnAfter outcome cells'.clock (prior_of r a) last → Tried
-  stops outcome ended ends undone goes = stops_try seen cells.clock cells'.clock r r1 a last row (last.engine.snapshot / 2) outcome told_ran _ refl m.answered.kept.row.1 ended refl ends undone few_again goes
+  stops outcome ended ends undone goes =
+      ends_try seen cells.clock cells'.clock r r1 a last row row.calls.list [] (sym (append-nil row.calls.list)) (last.engine.snapshot / 2) outcome told_ran _ refl m.answered.kept.row.1 ended refl ends (not_closed outcome undone row.calls.list) few_again goes
 
 module _ {P : Type 0} {rules : Rules P} {cells cells' : Cells} {r r1 : Rows} {mid : Core} {a last : Actor P} {call : Call} (seen : ℕ) where
   pub open_tries : (ans : Answer) → (IsRestart ans → ⊥) → HasAnswered rules true cells cells' r r1 mid a last call ans → Tries Extends cells.clock (record (prior_of r a) { seen = seen }) cells'.clock r1 last
   open_tries (Reply reply) never m = by_open (in_transaction last.engine) refl
     where
-      half : cells'.clock / 2 ≡ cells.clock / 2
-      half = half_same m refl
-
       by_open : (now : Bool) → in_transaction last.engine ≡ now → Tries Extends cells.clock (record (prior_of r a) { seen = seen }) cells'.clock r1 last
       by_open true o =
           let row = m.answered.kept.row in
           let ran : List Ran = ran_on row.0.ran row.0.restarts last.engine.actions.ran in
           let x = taken_at m.told (stage_open _ row.1) o in
-          stays_open seen cells.clock cells'.clock r r1 a last (x.ended ∙ append-nil r.ended) half row.0 (record (with_call call reply row.0) { ran = ran }) (current_open a row.1) (told_active x)
+          stays_open seen cells.clock cells'.clock r r1 a last (x.ended ∙ append-nil r.ended) (half_same m refl) row.0 (record (with_call call reply row.0) { ran = ran }) (current_open a row.1) (told_active x)
           (extends_to row.0 (with_call call reply row.0).calls (record { call = call; reply = reply } ∷ []) refl row.0.at row.0.outcome ran _ refl) (told_nth x) (still_going x.status) (still_going x.status)
       by_open false o =
           let calls : List CallRecord = m.answered.kept.row.0.calls.list in
           let shut : in_transaction a.engine ≡ false = ap in_transaction (sym m.settled.engine) ∙ o in
           let g : Replies mid call reply a.engine = plain_reply mid a.engine call reply m.taken.doing m.taken.tied.settled shut m.ends in
           let abort = cancels mid a.engine call reply cells'.words g m.taken.was_is shut (sym m.taken.words, m.taken.tied.fit) (subst (Agrees cells'.words) (sym (m.taken.tied.settled.closed shut).0) tt) in
-          closes seen m reply outcomes.Cancelled shut (taken_at m.told (stage_open _ m.answered.kept.row.1) o) (half, omega (arith, ap (λ (c : Core). c.snapshot) m.settled.engine, reached cells' a.engine m.taken.tied))
+          closes seen m reply outcomes.Cancelled shut (taken_at m.told (stage_open _ m.answered.kept.row.1) o) (half_same m refl, omega (arith, ap (λ (c : Core). c.snapshot) m.settled.engine, reached cells' a.engine m.taken.tied))
           (calls, abort.0, (λ i. calls ++ record { call = abort.1 i; reply = abort.2 i } ∷ [])) (λ b. b)
   open_tries (Committed at wrote) never m =
       let calls : List CallRecord = m.answered.kept.row.0.calls.list in
@@ -240,21 +228,17 @@ module _ {P : Type 0} {rules : Rules P} {cells cells' : Cells} {r r1 : Rows} {mi
   -- where a step was done, the begin was not refused; the engine had seen this clock before
   pub begin_tries : (seen : ℕ) → ((props : Props) (room : ℕ) → call ≡ Begin props room → may_go mid.blocks props ≡ true) → (ans : Answer) → ((clock : ℕ) (word : Option ℕ) → ans ≡ Conflict clock word → seen ≤ mid.snapshot)
       → HasAnswered rules false cells cells' r r1 mid a last call ans → Tries Extends cells.clock (record (prior_of r a) { seen = seen }) cells'.clock r1 last
-  begin_tries seen may (Reply reply) early m = elim x.either [
-    | inl b ↦ stays_open seen cells.clock cells'.clock r r1 a last x.ended half b.row (record b.row { at = last.engine.snapshot / 2 }) (current_shut a m.answered.kept.row b.pending) (ap open_in b.stage) (extends_calls b.row b.row.calls (last.engine.snapshot / 2) refl) x.nth (still_going x.status) (still_going x.status)
-    | inr n ↦ elim n.why [
-      | inl nothing ↦
-          stays_between seen cells.clock cells'.clock r r1 a last x.ended half m.answered.kept.row nothing (is_between rules a last false m.settled cells'.clock a.run.nth (ap in_transaction (sym m.settled.engine) ∙ n.shut) x.status x.nth)
-      | inr b ↦ absurd (refused b.0 b.1 b.2 (ap in_transaction (sym m.settled.engine) ∙ n.shut))
-    ]
-  ]
+  begin_tries seen may (Reply reply) early m =
+      let x = begun_or_not reply m in
+      elim x.either [
+        | inl b ↦ stays_open seen cells.clock cells'.clock r r1 a last x.ended (half_same m refl) b.row (record b.row { at = last.engine.snapshot / 2 }) (current_shut a m.answered.kept.row b.pending) (ap open_in b.stage) (extends_calls b.row b.row.calls (last.engine.snapshot / 2) refl) x.nth (still_going x.status) (still_going x.status)
+        | inr n ↦ elim n.why [
+          | inl nothing ↦
+              stays_between seen cells.clock cells'.clock r r1 a last x.ended (half_same m refl) m.answered.kept.row nothing (is_between rules a last false m.settled cells'.clock a.run.nth (ap in_transaction (sym m.settled.engine) ∙ n.shut) x.status x.nth)
+          | inr b ↦ absurd (refused b.0 b.1 b.2 (ap in_transaction (sym m.settled.engine) ∙ n.shut))
+        ]
+      ]
     where
-      x : RepliedOutside rules r r1 a last call reply
-      x = begun_or_not reply m
-
-      half : cells'.clock / 2 ≡ cells.clock / 2
-      half = half_same m refl
-
       refused : (props : Props) (room : ℕ) → call ≡ Begin props room → in_transaction a.engine ≡ false → ⊥
       refused props room is closed =
           let g : Replies mid (Begin props room) reply a.engine = subst (λ (c : Call). Replies mid c reply a.engine) is (plain_reply mid a.engine call reply m.taken.doing m.taken.tied.settled closed m.ends) in

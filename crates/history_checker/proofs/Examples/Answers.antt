@@ -33,6 +33,7 @@ at_the_end : finding_of (history (writer 0 ∷ []) 2 2) ≡ record { verdict = B
 unfolding verdict_of fault_in
 at_the_end = refl
 
+-- the text has them in another order than their positions
 nothing_wrong : finding_of (history (writer 1 ∷ writer 0 ∷ []) 4 2) ≡ record { verdict = Legal; spot = None; answer = None }
 unfolding verdict_of fault_in
 nothing_wrong = refl

@@ -1,9 +1,7 @@
 -- The histories of worked verdicts: calls on one word that is zero at first, and attempts of one thread.
 use Rattle.std.proofs.Common.{ℕ, ◌+◌, List, [], ◌∷◌, false, refl}
 use Rattle.history_checker.proofs.Common.{Abort, Attempt, Bytes, Call, CallRecord, Code, Commit, Committed, Done, History, Mode, One, Outcome, Ran, Read, ReadOnly, Reply, U8, UndoAction, Unfinished, W, Write}
-use Rattle.itm_types.specs.declared.access.ReadHint.TheVariants.{R}
-use Rattle.itm_types.specs.declared.call.Action.{Action}
-use Rattle.itm_types.specs.declared.call.Props.{Props}
+use Rattle.itm_types.{specs.declared.access.ReadHint.TheVariants.R, specs.declared.call.Action.Action, specs.declared.call.Props.Props}
 
 -- ## Calls with their replies
 

@@ -1,8 +1,7 @@
 -- Worked verdicts on histories in which a block ran again, and on those of another depth, computed.
 use Rattle.std.proofs.Common.{◌≡◌, ℕ, List, [], ◌∷◌, ◌++◌, refl, replicate, arith}
 use Rattle.history_checker.proofs.Common.{Again, Attempt, Bad, Begin, CallRecord, Code, Commit, Committed, Done, History, Legal, Load, Mode, One, Refused, Reply, Three, TooDeep, Two, U1, U8, Unfinished, Version, W, Write, bytes_reply, fault_in, verdict_of}
-use Rattle.itm_types.specs.declared.call.ActionKind.TheVariants.{Undo}
-use Rattle.itm_types.specs.declared.limits.Depth.{Depth}
+use Rattle.itm_types.{specs.declared.call.ActionKind.TheVariants.Undo, specs.declared.limits.Depth.Depth}
 use Rattle.tx_attempts.proofs.Examples.{again, eight, plain}
 use Rattle.history_checker.specs.declared.verdict.BadKind.TheVariants as kind
 

@@ -1,4 +1,4 @@
--- Worked verdicts, computed. The text of a history has its header in line 1 and the memory in line 2; an attempt has a line for its head, one for its arena, one for each call and each action that ran, and its `end`; the final line comes last.
+-- Worked verdicts, computed. The text of a history has its header in line 1 and the memory in line 2; an attempt has a line for its head, one for its arena, one for each call and each action that ran, and its `end`; the final line comes last. Those with their reasons are in `Answers.antt`.
 use Rattle.std.proofs.Common.{◌≡◌, [], ◌∷◌, refl}
 use Rattle.history_checker.proofs.Common.{Bad, Cancelled, Commit, Committed, Legal, Outside, ReadOnly, Refused, Unfinished, fault_in, verdict_of}
 use Rattle.user_actions.specs.Actions.{as_undo}
@@ -6,11 +6,6 @@ use Rattle.history_checker.specs.declared.verdict.BadKind.TheVariants as kind
 use Rattle.history_checker.proofs.Examples.Histories.{action, answered, attempt, attempt_ran, cancels, commits, history, holder, on_undo, reader, reads, writer, writes}
 
 -- ## Legal ones
-
--- the text has them in another order than their positions
-two_writers : verdict_of (history (writer 1 ∷ writer 0 ∷ []) 4 2) ≡ Legal
-unfolding verdict_of fault_in
-two_writers = refl
 
 -- each reads what so many first commits left, whatever came later
 older_memory : verdict_of (history (writer 0 ∷ reader 1 1 ∷ writer 1 ∷ reader 0 0 ∷ reader 2 2 ∷ []) 4 2) ≡ Legal
@@ -29,17 +24,6 @@ taken_position : verdict_of (history (attempt Committed 0 (writes 1 ∷ commits 
 unfolding verdict_of
 taken_position = refl
 
-saw_too_many : verdict_of (history (writer 0 ∷ reader 1 1 ∷ reader 2 1 ∷ []) 2 1) ≡ Bad 14 kind.At
-unfolding verdict_of
-saw_too_many = refl
-
--- ## Replies
-
--- the second writer read what was before the first one
-lost_update : verdict_of (history (writer 0 ∷ attempt Committed 1 (reads 0 ∷ writes 1 ∷ commits ∷ []) ∷ []) 4 1) ≡ Bad 11 kind.Reply
-unfolding verdict_of fault_in
-lost_update = refl
-
 -- ## Shapes
 
 call_after_the_end : verdict_of (history (reader 0 0 ∷ attempt ReadOnly 0 (reads 0 ∷ commits ∷ answered Commit (Refused Outside) ∷ []) ∷ []) 0 0) ≡ Bad 8 kind.Shape
@@ -53,10 +37,6 @@ unfolding verdict_of fault_in
 wrong_order = refl
 
 -- ## The end
-
-wrong_bytes : verdict_of (history (writer 0 ∷ []) 2 2) ≡ Bad 9 kind.Final
-unfolding verdict_of fault_in
-wrong_bytes = refl
 
 -- it stands at 0, where a writer has committed since
 irrevocable_elsewhere : verdict_of (history (writer 0 ∷ holder 0 ∷ attempt Unfinished 1 [] ∷ []) 3 1) ≡ Bad 16 kind.Final
@@ -73,11 +53,6 @@ odd_with_fewer_bytes = refl
 position_first : verdict_of (history (reader 9 0 ∷ writer 0 ∷ writer 0 ∷ []) 4 2) ≡ Bad 14 kind.Position
 unfolding verdict_of
 position_first = refl
-
--- the committed ones by position, and not in the text's order
-by_position : verdict_of (history (attempt Committed 1 (reads 7 ∷ commits ∷ []) ∷ attempt Committed 0 (reads 7 ∷ commits ∷ []) ∷ []) 4 0) ≡ Bad 10 kind.Reply
-unfolding verdict_of fault_in
-by_position = refl
 
 -- of an attempt the first call that is wrong, and that before its end
 first_call : verdict_of (history (attempt Committed 0 (writes 1 ∷ reads 7 ∷ reads 8 ∷ []) ∷ []) 2 1) ≡ Bad 6 kind.Reply

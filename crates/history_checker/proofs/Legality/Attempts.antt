@@ -1,30 +1,20 @@
 -- An attempt has no fault on a memory exactly where it is one alone on it.
 use Rattle.std.proofs.Common.{◌≡◌, ℕ, zero, suc, ◌-◌, ◌<◌, Bool, true, false, not, ◌&&◌, if◌then◌else◌, is_some, List, [], ◌∷◌, ◌++◌, length, map, take, Option, None, Some, refl, sym, ap, subst, ◌∙◌, arith, length-append, bytes_eq}
-use Rattle.history_checker.proofs.Common.{Abort, Again, Attempt, Breaks, ByAbort, ByCommit, Call, CallRecord, Cancelled, ClosedBy, Code, Commit, Committed, Decides, Decides-and, Done, EndsIn, Fault, IsAlone, Outcome, ReadOnly, Reply, State, Unfinished, after, again_at, again_fault, alone, and_from, and_parts, are_again, arena_set, at_call, at_head, bytes_eq-Decides, calls_fault, came_irrevocable, cond-false, cond-true, end_fault, ends_by_abort, ends_by_commit, eqb-true, fault_in, first_of, fits, is_abort_done, is_cancelled, is_commit_done, is_done, is_open, last_is, may_begin, may_stand, not-true, not_from_false, opened, pointwise, ran_alone, replies_through, reply, same_ran, same_reply, state_at, state_through, take-append_seam}
+use Rattle.history_checker.proofs.Common.{Abort, Again, Attempt, Breaks, ByAbort, ByCommit, Call, CallRecord, Cancelled, ClosedBy, Code, Commit, Committed, Decides, Decides-and, Done, EndsIn, Fault, IsAlone, Outcome, ReadOnly, Reply, State, Unfinished, after, again_at, again_fault, alone, and_from, and_parts, are_again, arena_set, at_call, at_head, bytes_eq-Decides, calls_fault, came_irrevocable, cond-false, end_fault, ends_by_abort, ends_by_commit, eqb-true, fault_in, first_of, fits, is_abort_done, is_cancelled, is_commit_done, is_done, is_open, last_is, may_begin, may_stand, not-true, not_from_false, opened, pointwise, ran_alone, replies_through, reply, same_ran, same_reply, state_at, state_through, take-append_seam}
 use Rattle.tx_attempts.specs.Opacity.{StaysRevocable}
 use Rattle.history_checker.specs.declared.verdict.BadKind.TheVariants as kind
 use Rattle.tx_history.proofs.Runs.AloneCalls.{same_head, same_tail}
 use Rattle.history_checker.proofs.Steps.Calls.{made}
-use Rattle.history_checker.proofs.Steps.Ends.{first_nothing}
+use Rattle.history_checker.proofs.Steps.Firsts.{first_nothing, passed, passed_over}
 use Rattle.history_checker.proofs.Legality.Replies.{all_ran_decides, reply_decides}
 use Rattle.history_checker.proofs.Legality.Restarts.{again_decides, each_at, each_from}
 
 -- ## The calls
 
--- with no fault both tests passed, and nothing later is wrong
-both_passed : (a b : Bool) (later : Option Fault) (f g : Fault) → (if a then (if b then later else Some f) else Some g) ≡ None → (a ≡ true) × (b ≡ true) × (later ≡ None)
-both_passed true true later f g e = (refl, refl, e)
-both_passed true false later f g e = absurd (cc)
-both_passed false b later f g e = absurd (cc)
-
 -- where no block ran again in an irrevocable transaction, nothing later is wrong
-free : (b : Bool) (later : Option Fault) (f : Fault) → (if b then Some f else later) ≡ None → (b ≡ false) × (later ≡ None)
-free true later f e = absurd (cc)
-free false later f e = (refl, e)
-
 none_held : (o : Option Again) (s : State) (later : Option Fault) → again_fault o s later ≡ None → (is_some o ≡ true → s.irrevocable ≡ false) × (later ≡ None)
 none_held None s later e = (λ is. absurd (cc), e)
-none_held (Some a) s later e = (let parts = free s.irrevocable later (at_head kind.Shape) e in (λ is. parts.0, parts.1))
+none_held (Some a) s later e = (let parts = passed_over s.irrevocable (at_head kind.Shape) later e in (λ is. parts.0, parts.1))
 
 -- and where nothing is, none did
 held_none : (o : Option Again) (s : State) (later : Option Fault) → (is_some o ≡ true → s.irrevocable ≡ false) → later ≡ None → again_fault o s later ≡ None
@@ -37,7 +27,7 @@ mode_set None s = refl
 mode_set (Some a) s = refl
 
 -- what the blocks that ran again make of a run
-abbrev sets : (ℕ → Option Again) → Breaks
+abbrev pub sets : (ℕ → Option Again) → Breaks
 sets again n s = arena_set (again n) s
 
 module _ (deepest : ℕ) where
@@ -76,29 +66,22 @@ module _ (deepest : ℕ) where
   calls_told again s i (x ∷ xs) f =
       let t = after deepest s x.call in
       let rest = calls_fault deepest (λ n. again (suc n)) (arena_set (again 1) t) (suc i) xs in
-      let parts = both_passed (is_open s) (same_reply x.reply (reply deepest s x.call)) (again_fault (again 1) t rest) (at_call i kind.Reply) (at_head kind.Shape) f in
-      let held = none_held (again 1) t rest parts.2 in
+      let inside = passed (is_open s) (if same_reply x.reply (reply deepest s x.call) then again_fault (again 1) t rest else Some (at_call i kind.Reply)) (at_head kind.Shape) f in
+      let right = passed (same_reply x.reply (reply deepest s x.call)) (again_fault (again 1) t rest) (at_call i kind.Reply) inside.1 in
+      let held = none_held (again 1) t rest right.1 in
       let later = calls_told (λ n. again (suc n)) (arena_set (again 1) t) (suc i) xs held.1 in
-      let first : x.reply ≡ reply deepest s x.call = (reply_decides x.reply (reply deepest s x.call)).0 parts.1 in
-      (λ t. first t ∷ later.0 t, one_more_there again s x xs parts.0 later.1, one_more_free again s x xs held.0 later.2)
+      let first : x.reply ≡ reply deepest s x.call = (reply_decides x.reply (reply deepest s x.call)).0 right.0 in
+      (λ t. first t ∷ later.0 t, one_more_there again s x xs inside.0 later.1, one_more_free again s x xs held.0 later.2)
 
   -- and where they are there is none
   calls_right : (again : ℕ → Option Again) (s : State) (i : ℕ) (es : List CallRecord) → map (λ (e : CallRecord). e.reply) es ≡ replies_through deepest (sets again) s (made es) → StaysOpen again s es → StaysFree again s es
       → calls_fault deepest again s i es ≡ None
   calls_right again s i [] r o h = refl
   calls_right again s i (x ∷ xs) r o h =
-      let there = reply deepest s x.call in
       let t = after deepest s x.call in
-      let more_again : ℕ → Option Again = λ n. again (suc n) in
-      let later = calls_fault deepest more_again (arena_set (again 1) t) (suc i) xs in
-      let replies = replies_through deepest (sets more_again) (arena_set (again 1) t) (made xs) in
-      let first : x.reply ≡ there = same_head x.reply there (map (λ (e : CallRecord). e.reply) xs) replies r in
-      let more : map (λ (e : CallRecord). e.reply) xs ≡ replies = same_tail x.reply there (map (λ (e : CallRecord). e.reply) xs) replies r in
-      let rest : later ≡ None = calls_right more_again (arena_set (again 1) t) (suc i) xs more (λ before e rest is. o (x ∷ before) e rest (ap (λ (l : List CallRecord). x ∷ l) is)) (λ n l is. h (suc n) (omega (arith, l)) is) in
-      let held : is_some (again 1) ≡ true → t.irrevocable ≡ false = λ is. sym (mode_set (again 1) t) ∙ h 0 (omega arith) is in
-      cond-true (is_open s) (if same_reply x.reply there then again_fault (again 1) t later else Some (at_call i kind.Reply)) (Some (at_head kind.Shape)) (o [] x xs refl)
-      ∙ (cond-true (same_reply x.reply there) (again_fault (again 1) t later) (Some (at_call i kind.Reply)) ((reply_decides x.reply there).1 first)
-      ∙ held_none (again 1) t later held rest)
+      let first : x.reply ≡ reply deepest s x.call = same_head _ _ _ _ r in
+      let rest = calls_right (λ n. again (suc n)) (arena_set (again 1) t) (suc i) xs (same_tail _ _ _ _ r) (λ before e rest is. o (x ∷ before) e rest (ap (λ (l : List CallRecord). x ∷ l) is)) (λ n l is. h (suc n) (omega (arith, l)) is) in
+      rw (o [] x xs refl, (reply_decides x.reply (reply deepest s x.call)).1 first) (held_none (again 1) t _ (λ is. sym (mode_set (again 1) t) ∙ h 0 (omega arith) is) rest)
 
 -- ## The last call
 
@@ -172,34 +155,27 @@ off_decides b = (not-true b, not_from_false b)
 
 -- the end that is given up leaves an open block that could be rolled back
 given_up : (inside irrevocable : Bool) → Decides (inside && not irrevocable) (((inside ≡ true) × (irrevocable ≡ false)) × Unit {0})
-given_up inside irrevocable = (
-  λ h. (let p = and_parts inside (not irrevocable) h in ((p.0, not-true irrevocable p.1), tt)),
-  λ h. and_from inside (not irrevocable) h.0.0 (not_from_false irrevocable h.0.1),
-)
+given_up inside irrevocable =
+    let d : Decides (inside && not irrevocable) ((inside ≡ true) × (irrevocable ≡ false)) = Decides-and inside (not irrevocable) (λ h. h, λ h. h) (off_decides irrevocable) in
+    (λ h. (d.0 h, tt), λ h. d.1 h.0)
 
 -- the state fits the outcome exactly where it is as the outcome says, and the last call too
 fits_decides : (deepest : ℕ) (o : Outcome) (memory : List ℕ) (a : Attempt) (s : State) → Decides (fits deepest o memory a s) (EndsIn deepest o memory a s × ClosedBy o a.calls.list)
 fits_decides deepest Committed memory a s = Decides-and (not (is_open s)) (ends_by_commit a.calls.list) (off_decides (is_open s)) (commit_decides a.calls.list)
-fits_decides deepest ReadOnly memory a s = (
-  λ h. (let p = and_parts (not (is_open s) && ends_by_commit a.calls.list) (bytes_eq s.memory memory && not (came_irrevocable deepest memory a)) h in
-      let q = and_parts (not (is_open s)) (ends_by_commit a.calls.list) p.0 in
-      let r = and_parts (bytes_eq s.memory memory) (not (came_irrevocable deepest memory a)) p.1 in
-      ((not-true (is_open s) q.0, (bytes_eq-Decides s.memory memory).0 r.0, λ before last is. sym (came_is deepest memory a before last is) ∙ not-true (came_irrevocable deepest memory a) r.1), (commit_decides a.calls.list).0 q.1)),
-  λ h. (let late : came_irrevocable deepest memory a ≡ false = came_is deepest memory a h.1.0 (record { call = Commit; reply = Done }) h.1.1 ∙ h.0.2 h.1.0 (record { call = Commit; reply = Done }) h.1.1 in
-      and_from (not (is_open s) && ends_by_commit a.calls.list) (bytes_eq s.memory memory && not (came_irrevocable deepest memory a))
-      (and_from (not (is_open s)) (ends_by_commit a.calls.list) (not_from_false (is_open s) h.0.0) ((commit_decides a.calls.list).1 h.1))
-      (and_from (bytes_eq s.memory memory) (not (came_irrevocable deepest memory a)) ((bytes_eq-Decides s.memory memory).1 h.0.1) (not_from_false (came_irrevocable deepest memory a) late))),
-)
+fits_decides deepest ReadOnly memory a s =
+    let came = came_irrevocable deepest memory a in
+    let last : CallRecord = record { call = Commit; reply = Done } in
+    let ends = Decides-and (not (is_open s)) (ends_by_commit a.calls.list) (off_decides (is_open s)) (commit_decides a.calls.list) in
+    let kept = Decides-and (bytes_eq s.memory memory) (not came) (bytes_eq-Decides s.memory memory) (off_decides came) in
+    let both = Decides-and (not (is_open s) && ends_by_commit a.calls.list) (bytes_eq s.memory memory && not came) ends kept in (
+      λ h. (let d = both.0 h in ((d.0.0, d.1.0, λ before end is. sym (came_is deepest memory a before end is) ∙ d.1.1), d.0.1)),
+      λ h. both.1 ((h.0.0, h.1), (h.0.1, came_is deepest memory a h.1.0 last h.1.1 ∙ h.0.2 h.1.0 last h.1.1)),
+    )
 fits_decides deepest Cancelled memory a s = Decides-and (not (is_open s)) (ends_by_abort a.calls.list) (off_decides (is_open s)) (abort_decides a.calls.list)
 fits_decides deepest Unfinished memory a s = (λ h. (h, tt), λ h. h.0)
 fits_decides deepest o memory a s = given_up (is_open s) s.irrevocable
 
 -- ## The attempt
-
--- with no fault it began, and nothing later is wrong
-begun_nothing : (b : Bool) (later : Option Fault) (f : Fault) → (if b then later else Some f) ≡ None → (b ≡ true) × (later ≡ None)
-begun_nothing true later f e = (refl, e)
-begun_nothing false later f e = absurd (cc)
 
 module _ (deepest : ℕ) (memory : List ℕ) (a : Attempt) where
   -- an attempt with no fault is one alone
@@ -209,12 +185,12 @@ module _ (deepest : ℕ) (memory : List ℕ) (a : Attempt) where
       let s = alone deepest memory a in
       let start = opened memory a.arena a.props in
       let called = calls_fault deepest (again_at a.restarts) start 0 a.calls.list in
-      let begun = begun_nothing (may_stand a) (first_of called (end_fault deepest memory a s)) (at_head kind.Shape) e in
+      let begun = passed (may_stand a) (first_of called (end_fault deepest memory a s)) (at_head kind.Shape) e in
       let stands = and_parts (may_begin a.props) (are_again (length a.arena) 0 a.calls.list a.restarts) begun.0 in
       let again = (again_decides (length a.arena) 0 a.calls.list a.restarts).0 stands.1 in
       let parts = first_nothing called (end_fault deepest memory a s) begun.1 in
       let told = calls_told deepest (again_at a.restarts) start 0 a.calls.list parts.0 in
-      let ended = both_passed (fits deepest a.outcome memory a s) (pointwise same_ran a.ran (ran_alone a.outcome s)) None (at_head kind.Ran) (at_head kind.Shape) parts.1 in
+      let ended = passed (fits deepest a.outcome memory a s) (if pointwise same_ran a.ran (ran_alone a.outcome s) then None else Some (at_head kind.Ran)) (at_head kind.Shape) parts.1 in
       let as_told = (fits_decides deepest a.outcome memory a s).0 ended.0 in
       record {
         props = stands.0;
@@ -222,7 +198,7 @@ module _ (deepest : ℕ) (memory : List ℕ) (a : Attempt) where
         stays_open = told.1;
         ends = as_told.0;
         closed = as_told.1;
-        ran = (all_ran_decides a.ran (ran_alone a.outcome s)).0 ended.1;
+        ran = (all_ran_decides a.ran (ran_alone a.outcome s)).0 (passed (pointwise same_ran a.ran (ran_alone a.outcome s)) None (at_head kind.Ran) ended.1).0;
         again = record { stand = again; revocable = each_from (StaysRevocable deepest memory a) (length a.arena) 0 a.calls.list a.restarts again told.2 };
       }
 
@@ -236,7 +212,5 @@ module _ (deepest : ℕ) (memory : List ℕ) (a : Attempt) where
       let calls : calls_fault deepest (again_at a.restarts) start 0 a.calls.list ≡ None =
       calls_right deepest (again_at a.restarts) start 0 a.calls.list i.replies i.stays_open (λ n l is. each_at (StaysRevocable deepest memory a) a.calls.list a.restarts i.again.revocable (suc n) is) in
       let ended : end_fault deepest memory a s ≡ None =
-      cond-true (fits deepest a.outcome memory a s) (if pointwise same_ran a.ran (ran_alone a.outcome s) then None else Some (at_head kind.Ran)) (Some (at_head kind.Shape)) ((fits_decides deepest a.outcome memory a s).1 (i.ends, i.closed))
-      ∙ cond-true (pointwise same_ran a.ran (ran_alone a.outcome s)) None (Some (at_head kind.Ran)) ((all_ran_decides a.ran (ran_alone a.outcome s)).1 i.ran) in
-      cond-true (may_stand a) (first_of (calls_fault deepest (again_at a.restarts) start 0 a.calls.list) (end_fault deepest memory a s)) (Some (at_head kind.Shape)) stands
-      ∙ (λ t. first_of (calls t) (ended t))
+      rw ((fits_decides deepest a.outcome memory a s).1 (i.ends, i.closed), (all_ran_decides a.ran (ran_alone a.outcome s)).1 i.ran) refl in
+      rw stands (λ t. first_of (calls t) (ended t))

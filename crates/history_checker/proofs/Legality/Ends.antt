@@ -1,6 +1,7 @@
 -- What a history's end says, by tests and by what it means.
-use Rattle.std.proofs.Common.{◌≡◌, ◌⊎◌, ℕ, ◌+◌, ◌*◌, ◌≤◌, ◌==◌, true, false, not, ◌&&◌, ◌||◌, nat_le, All, List, [], ◌∷◌, ◌++◌, length, refl, sym, ap, ◌∙◌, inl, inr, eq-eqb, eqb-true, bytes_eq}
-use Rattle.history_checker.proofs.Common.{All-cons, All-head, All-nil, All-tail, Attempt, Decides, Decides-and, Decides-eqb, Decides-or, EndsFree, EndsHeld, History, Outcome, Unfinished, and_cases, and_from, and_left, and_parts, and_right, bytes_eq-Decides, cases_Bool, count_holding, ends_free, ends_held, is_away, is_holding, is_unfinished, is_waiting, le-leb, leb-true, memory_at, not-false, not-true, not_from_false, not_from_true, or_cases, or_from, or_left, or_parts, or_right}
+use Rattle.std.proofs.Common.{◌≡◌, ◌⊎◌, ℕ, ◌+◌, ◌*◌, ◌≤◌, ◌==◌, Bool, true, false, not, ◌&&◌, ◌||◌, nat_le, All, List, [], ◌∷◌, ◌++◌, length, refl, sym, ap, ◌∙◌, inl, inr, eq-eqb, eqb-true, bytes_eq}
+use Rattle.history_checker.proofs.Common.{Attempt, Decides, Decides-and, Decides-eqb, Decides-or, EndsFree, EndsHeld, History, Outcome, Unfinished, and_cases, and_from, and_left, and_parts, and_right, bytes_eq-Decides, cases_Bool, count_holding, ends_free, ends_held, is_away, is_holding, is_unfinished, is_waiting, le-leb, leb-true, memory_at, not-false, not-true, not_from_false, not_from_true, or_cases, or_left, or_right}
+use Rattle.std.proofs.lemmas.Bool.Decides.{Decides-by_and}
 
 -- ## Who holds the clock
 
@@ -30,40 +31,31 @@ waits_there n (b ∷ before) rest a e at = or_right (is_unfinished b.outcome && 
 waiting_decides : (n : ℕ) (ts : List Attempt) → Decides (is_waiting n ts) (Waits n ts)
 waiting_decides n ts = (waits_from n ts, λ w. ap (is_waiting n) w.3 ∙ waits_there n w.0 w.1 w.2 w.4 w.5)
 
+neither : (a b : Bool) → not (a || b) ≡ (not a && not b)
+neither true b = refl
+neither false b = refl
+
 module _ (h : History) (n : ℕ) where
   -- if it holds the clock it stands at this position
   abbrev HoldsThere : Attempt → Type 0
   HoldsThere a = is_holding h a ≡ true → a.at ≡ n
 
-  -- it does where it does not stand elsewhere
-  holds_there : (a : Attempt) → (is_holding h a && not (a.at == n)) ≡ false → HoldsThere a
-  holds_there a e on = elim (and_cases (is_holding h a) (not (a.at == n)) e) [
-    | inl off ↦ absurd (let no : true ≡ false = sym on ∙ off in cc)
-    | inr is ↦ eqb-true a.at n (not-false (a.at == n) is)
-  ]
-
-  -- and then it does not
-  not_elsewhere : (a : Attempt) → HoldsThere a → (is_holding h a && not (a.at == n)) ≡ false
-  not_elsewhere a there = elim (cases_Bool (is_holding h a)) [
-    | inl on ↦ and_right (is_holding h a) (not (a.at == n)) (not_from_true (a.at == n) (eq-eqb a.at n (there on)))
-    | inr off ↦ and_left (is_holding h a) (not (a.at == n)) off
-  ]
-
-  -- where none is away all stand there
-  all_there : (ts : List Attempt) → is_away h n ts ≡ false → All HoldsThere ts
-  all_there [] e = All-nil HoldsThere
-  all_there (a ∷ ts) e =
-      let parts = or_parts (is_holding h a && not (a.at == n)) (is_away h n ts) e in
-      All-cons HoldsThere a ts (holds_there a parts.0) (all_there ts parts.1)
-
-  -- and where all do none is
-  none_away : (ts : List Attempt) → All HoldsThere ts → is_away h n ts ≡ false
-  none_away [] all = refl
-  none_away (a ∷ ts) all = or_from (is_holding h a && not (a.at == n)) (is_away h n ts) (not_elsewhere a (All-head HoldsThere a ts all)) (none_away ts (All-tail HoldsThere a ts all))
+  -- it does exactly where it does not stand elsewhere
+  there_each : (a : Attempt) → Decides (not (is_holding h a && not (a.at == n))) (HoldsThere a)
+  there_each a = (
+    λ e on. elim (and_cases (is_holding h a) (not (a.at == n)) (not-true (is_holding h a && not (a.at == n)) e)) [
+      | inl off ↦ absurd (let no : true ≡ false = sym on ∙ off in cc)
+      | inr is ↦ eqb-true a.at n (not-false (a.at == n) is)
+    ],
+    λ there. not_from_false (is_holding h a && not (a.at == n)) (elim (cases_Bool (is_holding h a)) [
+      | inl on ↦ and_right (is_holding h a) (not (a.at == n)) (not_from_true (a.at == n) (eq-eqb a.at n (there on)))
+      | inr off ↦ and_left (is_holding h a) (not (a.at == n)) off
+    ]),
+  )
 
   -- the test of them all
   there_decides : (ts : List Attempt) → Decides (not (is_away h n ts)) (All HoldsThere ts)
-  there_decides ts = (λ e. all_there ts (not-true (is_away h n ts) e), λ all. not_from_false (is_away h n ts) (none_away ts all))
+  there_decides = Decides-by_and (λ (a : Attempt). not (is_holding h a && not (a.at == n))) HoldsThere (λ (ts : List Attempt). not (is_away h n ts)) there_each refl (λ a ts. neither (is_holding h a && not (a.at == n)) (is_away h n ts))
 
   -- ## Both ends
 

@@ -1,7 +1,8 @@
 -- With as many positions as committed attempts, no attempt is misplaced exactly where each position is that of one of them.
 use Rattle.std.proofs.Common.{◌≡◌, ℕ, zero, suc, ◌+◌, ◌<◌, ◌≤◌, ◌==◌, Bool, true, false, ◌&&◌, ◌||◌, nat_lt, nat_le, List, [], ◌∷◌, ◌++◌, length, get_or, None, Some, refl, sym, ap, subst, ◌∙◌, inl, inr, arith}
-use Rattle.history_checker.proofs.Common.{Attempt, and_cases, and_from, and_left, and_parts, and_right, at_head, at_place, cases_Bool, cases_lt, cases_order, cond-false, cond-true, count_at, count_committed, eq-eqb, eqb-true, is_at, is_committed, is_misplaced, le-ltb, leb-false, lt-leb, lt-ltb, ltb-false, ltb-true, ne_eqb, one_where, or_from, or_parts, position_fault}
+use Rattle.history_checker.proofs.Common.{Attempt, and_cases, and_from, and_left, and_parts, and_right, at_head, at_place, cases_Bool, cases_lt, cases_order, cond-false, count_at, count_committed, eq-eqb, eqb-true, is_at, is_committed, is_misplaced, le-ltb, leb-false, lt-leb, lt-ltb, ltb-false, ltb-true, ne_eqb, one_where, or_from, or_parts, position_fault}
 use Rattle.history_checker.specs.declared.verdict.BadKind.TheVariants as kind
+use Rattle.history_checker.proofs.Steps.Firsts.{passed_over}
 
 -- ## Counts
 
@@ -78,32 +79,17 @@ once_more n before a e h k = elim (cases_Bool (is_at k a)) [
       let both = and_parts (is_committed a.outcome) (a.at == k) on in
       let parts = placed_parts n before a e both.0 in
       let is : a.at ≡ k = eqb-true a.at k both.1 in
-      let below : k < n = omega (arith, is, parts.0) in
       let free : count_at k before ≤ 0 = subst (λ (x : ℕ). count_at x before ≤ 0) is parts.1 in
-      let one : one_where (is_at k a) ≡ 1 = ap one_where on in
-      let room : one_where (nat_lt k n) ≡ 1 = ap one_where (lt-ltb k n below) in
-      omega (arith, count_both k before (a ∷ []), free, one, room)
-  | inr off ↦
-      let none : one_where (is_at k a) ≡ 0 = ap one_where off in
-      omega (arith, count_both k before (a ∷ []), none, h k)
-]
-
--- the head of a list with no fault is not misplaced
-head_placed : (n : ℕ) (before : List Attempt) (a : Attempt) (rest : List Attempt) → position_fault n before (a ∷ rest) ≡ None → is_misplaced n before a ≡ false
-head_placed n before a rest e = elim (cases_Bool (is_misplaced n before a)) [
-  | inl on ↦ (let no : at_place (length before) (Some (at_head kind.Position)) ≡ None =
-      sym (cond-true (is_misplaced n before a) (at_place (length before) (Some (at_head kind.Position))) (position_fault n (before ++ a ∷ []) rest) on) ∙ e in cc)
-  | inr off ↦ off
+      omega (arith, count_both k before (a ∷ []), free, ap one_where on, ap one_where (lt-ltb k n (omega (arith, is, parts.0))))
+  | inr off ↦ omega (arith, count_both k before (a ∷ []), ap one_where off, h k)
 ]
 
 -- with no fault each position is taken once at most
 pub once_from : (n : ℕ) (before ts : List Attempt) → position_fault n before ts ≡ None → AtMostOnce n before → AtMostOnce n (before ++ ts)
 once_from n before [] e h k = omega (arith, count_both k before [], h k)
 once_from n before (a ∷ rest) e h k =
-    let off = head_placed n before a rest e in
-    let more : position_fault n (before ++ a ∷ []) rest ≡ None =
-    sym (cond-false (is_misplaced n before a) (at_place (length before) (Some (at_head kind.Position))) (position_fault n (before ++ a ∷ []) rest) off) ∙ e in
-    let all = once_from n (before ++ a ∷ []) rest more (once_more n before a off h) k in
+    let parts = passed_over (is_misplaced n before a) _ (position_fault n (before ++ a ∷ []) rest) e in
+    let all = once_from n (before ++ a ∷ []) rest parts.1 (once_more n before a parts.0 h) k in
     omega (arith, all, count_both k (before ++ a ∷ []) rest, count_both k before (a ∷ []), count_both k before (a ∷ rest))
 
 -- and where it is there is no fault
@@ -129,52 +115,34 @@ below_none (suc m) = (let e = below_none m in omega (arith, e))
 below_split : (c : Bool) (x m : ℕ) → one_where (c && nat_lt x (suc m)) ≡ one_where (c && nat_lt x m) + one_where (c && (x == m))
 below_split false x m = omega arith
 below_split true x m = elim (cases_order x m) [
-  | inl is ↦
-      let wide : one_where (nat_lt x (suc m)) ≡ 1 = ap one_where (lt-ltb x (suc m) (omega (arith, is))) in
-      let narrow : one_where (nat_lt x m) ≡ 0 = ap one_where (le-ltb x m (omega (arith, is))) in
-      let here : one_where (x == m) ≡ 1 = ap one_where (eq-eqb x m is) in
-      omega (arith, wide, narrow, here)
-  | inr (inl less) ↦
-      let wide : one_where (nat_lt x (suc m)) ≡ 1 = ap one_where (lt-ltb x (suc m) (omega (arith, less))) in
-      let narrow : one_where (nat_lt x m) ≡ 1 = ap one_where (lt-ltb x m less) in
-      let here : one_where (x == m) ≡ 0 = ap one_where (ne_eqb x m (λ is. omega (arith, is, less))) in
-      omega (arith, wide, narrow, here)
-  | inr (inr more) ↦
-      let wide : one_where (nat_lt x (suc m)) ≡ 0 = ap one_where (le-ltb x (suc m) more) in
-      let narrow : one_where (nat_lt x m) ≡ 0 = ap one_where (le-ltb x m (omega (arith, more))) in
-      let here : one_where (x == m) ≡ 0 = ap one_where (ne_eqb x m (λ is. omega (arith, is, more))) in
-      omega (arith, wide, narrow, here)
+  | inl is ↦ rw (lt-ltb x (suc m) (omega (arith, is)), le-ltb x m (omega (arith, is)), eq-eqb x m is) (omega arith)
+  | inr (inl less) ↦ rw (lt-ltb x (suc m) (omega (arith, less)), lt-ltb x m less, ne_eqb x m (λ is. omega (arith, is, less))) (omega arith)
+  | inr (inr more) ↦ rw (le-ltb x (suc m) more, le-ltb x m (omega (arith, more)), ne_eqb x m (λ is. omega (arith, is, more))) (omega arith)
 ]
 
 -- an attempt at a position below counts once more
 below_head : (m : ℕ) (a : Attempt) (ts : List Attempt) → count_below m (a ∷ ts) ≡ one_where (is_committed a.outcome && nat_lt a.at m) + count_below m ts
-below_head zero a ts =
-    let none : one_where (is_committed a.outcome && nat_lt a.at 0) ≡ 0 = ap one_where (and_right (is_committed a.outcome) (nat_lt a.at 0) (le-ltb a.at 0 (omega arith))) in
-    omega (arith, none)
+below_head zero a ts = omega (arith, ap one_where (and_right (is_committed a.outcome) (nat_lt a.at 0) (le-ltb a.at 0 (omega arith))))
 below_head (suc m) a ts = (let less = below_head m a ts in omega (arith, less, below_split (is_committed a.outcome) a.at m))
+
+below_one : (c : Bool) (x m : ℕ) → (c ≡ true → x < m) → one_where (c && nat_lt x m) ≡ one_where c
+below_one true x m h = ap one_where (lt-ltb x m (h refl))
+below_one false x m h = refl
 
 -- where none stands further up, those below are all
 below_all : (m : ℕ) (ts : List Attempt) → ((k : ℕ) → m ≤ k → count_at k ts ≤ 0) → count_below m ts ≡ count_committed ts
 below_all m [] h = below_none m
 below_all m (a ∷ ts) h =
     let later = below_all m ts (λ k l. (let both = h k l in omega (arith, both))) in
-    let head = below_head m a ts in
-    elim (cases_Bool (is_committed a.outcome)) [
-      | inr off ↦
-          let here : one_where (is_committed a.outcome && nat_lt a.at m) ≡ 0 = ap one_where (and_left (is_committed a.outcome) (nat_lt a.at m) off) in
-          let none : one_where (is_committed a.outcome) ≡ 0 = ap one_where off in
-          omega (arith, later, head, here, none)
-      | inl on ↦ elim (cases_lt a.at m) [
-        | inl b ↦
-            let here : one_where (is_committed a.outcome && nat_lt a.at m) ≡ 1 = ap one_where (and_from (is_committed a.outcome) (nat_lt a.at m) on (lt-ltb a.at m b)) in
-            let one : one_where (is_committed a.outcome) ≡ 1 = ap one_where on in
-            omega (arith, later, head, here, one)
-        | inr g ↦
-            let there : one_where (is_at a.at a) ≡ 1 = ap one_where (at_its_own a on) in
-            let none = h a.at g in
-            absurd (omega (arith, there, none))
-      ]
-    ]
+    omega (
+      arith,
+      later,
+      below_head m a ts,
+      below_one (is_committed a.outcome) a.at m (λ on. elim (cases_lt a.at m) [
+        | inl b ↦ b
+        | inr g ↦ (let there : one_where (is_at a.at a) ≡ 1 = ap one_where (at_its_own a on) in let none = h a.at g in absurd (omega (arith, there, none)))
+      ]),
+    )
 
 -- with at most one at each position there are no more than positions
 below_most : (m : ℕ) (ts : List Attempt) → ((k : ℕ) → count_at k ts ≤ 1) → count_below m ts ≤ m
@@ -198,8 +166,5 @@ each_once ts h k =
     let n = count_committed ts in
     elim (cases_lt k n) [
       | inl b ↦ below_each n ts (once_each n ts h) (below_all n ts (none_past n ts h)) k b ∙ sym (ap one_where (lt-ltb k n b))
-      | inr g ↦
-          let none = none_past n ts h k g in
-          let off : one_where (nat_lt k n) ≡ 0 = ap one_where (le-ltb k n g) in
-          omega (arith, none, off)
+      | inr g ↦ omega (arith, none_past n ts h k g, ap one_where (le-ltb k n g))
     ]

@@ -1,12 +1,12 @@
 -- The machine's answer is told just where a call has another reply, and is its reply there.
-use Rattle.std.proofs.Common.{◌≡◌, ℕ, zero, suc, ◌+◌, ◌<◌, ◌≤◌, Bool, true, false, not, ◌&&◌, ◌==◌, nat_lt, if◌then◌else◌, List, [], ◌∷◌, ◌++◌, length, take, Option, None, Some, refl, sym, ap, subst, ◌∙◌, inl, inr, arith, length-append, is_none, nat_le, slice_get}
-use Rattle.history_checker.proofs.Common.{Again, Attempt, Breaks, CallRecord, Fault, HasReason, History, IfSome_then, IsReason, IsReasonIn, Reply, Spot, State, after, again_at, again_fault, alone, and_from, and_parts, answer_at, answer_in, answer_of, answer_on, answer_to, arena_set, at_call, at_fault, at_head, at_place, call_answer, calls_fault, cases_Bool, cases_lt, committed_fault, cond-false, cond-true, count_committed, depth_of, end_fault, eqb-true, fault_at, fault_in, first_fault, first_of, is_at, is_beyond, is_committed, is_known, is_misplaced, is_open, is_reached, le-leb, lt-leb, ltb-true, may_stand, memory_at, opened, others_fault, position_fault, reply, same_reply, spot_answer, state_behind, state_through}
+use Rattle.std.proofs.Common.{◌≡◌, ℕ, zero, suc, ◌+◌, ◌<◌, ◌≤◌, Bool, true, false, not, ◌==◌, nat_lt, if◌then◌else◌, List, [], ◌∷◌, ◌++◌, length, take, Option, None, Some, refl, sym, ap, subst, arith, length-append, is_none, nat_le, slice_get}
+use Rattle.history_checker.proofs.Common.{Again, Attempt, CallRecord, Fault, HasReason, History, IfSome_then, IsReason, IsReasonIn, Reply, Spot, State, after, again_at, again_fault, alone, and_from, and_left, and_parts, and_right, answer_at, answer_in, answer_of, answer_on, answer_to, arena_set, at_call, at_fault, at_head, at_place, call_answer, calls_fault, committed_fault, cond-false, cond-true, count_committed, depth_of, end_fault, eqb-true, fault_at, fault_in, first_fault, first_of, get_or_from_slice_get, is_at, is_beyond, is_committed, is_known, is_misplaced, is_open, is_reached, le-leb, lt-leb, ltb-true, may_stand, memory_at, opened, others_fault, position_fault, reply, same_reply, slice_get_within, spot_answer, state_behind, state_through}
 use Rattle.std.specs.Option.{IfSome}
 use Rattle.history_checker.specs.declared.verdict.BadKind.TheVariants as kind
-use Rattle.history_checker.proofs.Steps.Answers.{second_fails}
 use Rattle.history_checker.proofs.Steps.Calls.{made}
-use Rattle.history_checker.proofs.Steps.Tables.{seen_within}
-use Rattle.history_checker.proofs.Steps.Ends.{first_nothing}
+use Rattle.history_checker.proofs.Steps.Ends.{right_below}
+use Rattle.history_checker.proofs.Steps.Tables.{none_beyond, seen_within}
+use Rattle.history_checker.proofs.Legality.Attempts.{sets}
 use Rattle.history_checker.proofs.Legality.Replies.{reply_decides}
 
 -- ## What is chosen, or comes first
@@ -34,9 +34,6 @@ held_or_later P None s later h f = f
 held_or_later P (Some a) s later h f = either_so P s.irrevocable (Some (at_head kind.Shape)) later (λ held. h) (λ free. f)
 
 module _ (deepest : ℕ) where
-  abbrev sets : (ℕ → Option Again) → Breaks
-  sets again n s = arena_set (again n) s
-
   -- of these calls, of which the first has number i, the one with this number has another reply than the machine's
   abbrev IsWrong : (ℕ → Option Again) → State → ℕ → List CallRecord → Option ℕ → Type 0
   IsWrong again s i es None = Unit {0}
@@ -174,40 +171,10 @@ other_spot h i (a ∷ rest) =
     (λ none. IfSome_then (others_fault h (suc i) rest) (other_spot h (suc i) rest) (λ s x. spot_later (P s) i a rest s x))
 
 -- an attempt that is not committed saw no more commits than there are, where none did
-seen_of : (n i : ℕ) (ts : List Attempt) → at_fault n i ts ≡ None → (j : ℕ) (a : Attempt) → slice_get ts j ≡ Some a → is_committed a.outcome ≡ false → a.at ≤ n
-seen_of n i [] e j a there off = absurd (cc)
-seen_of n i (x ∷ rest) e zero a there off =
-    let is : x ≡ a = cc in
-    elim (cases_Bool (is_beyond n x)) [
-      | inl on ↦ (let some : at_place i (Some (at_head kind.At)) ≡ None = sym (cond-true (is_beyond n x) (at_place i (Some (at_head kind.At))) (at_fault n (suc i) rest) on) ∙ e in absurd (cc (some)))
-      | inr free ↦ seen_within n a off (subst (λ (y : Attempt). is_beyond n y ≡ false) is free)
-    ]
-seen_of n i (x ∷ rest) e (suc j) a there off =
-    elim (cases_Bool (is_beyond n x)) [
-      | inl on ↦ (let some : at_place i (Some (at_head kind.At)) ≡ None = sym (cond-true (is_beyond n x) (at_place i (Some (at_head kind.At))) (at_fault n (suc i) rest) on) ∙ e in absurd (cc (some)))
-      | inr free ↦ seen_of n (suc i) rest (sym (cond-false (is_beyond n x) (at_place i (Some (at_head kind.At))) (at_fault n (suc i) rest) free) ∙ e) j a there off
-    ]
-
--- where nothing is wrong with so many first ones, nothing is with fewer
-right_below : (h : History) (n k : ℕ) → k ≤ n → committed_fault h n ≡ None → committed_fault h k ≡ None
-right_below h zero k l e = (let is : 0 ≡ k = omega (arith, l) in subst (λ (x : ℕ). committed_fault h x ≡ None) is e)
-right_below h (suc n) k l e =
-    let before = (first_nothing (committed_fault h n) (fault_at (depth_of h.version) (memory_at h n) n 0 h.attempts) e).0 in
-    elim (cases_lt n k) [
-      | inl past ↦ (let is : suc n ≡ k = omega (arith, l, past) in subst (λ (x : ℕ). committed_fault h x ≡ None) is e)
-      | inr within ↦ right_below h n k within before
-    ]
+seen_of : (n : ℕ) (ts : List Attempt) → at_fault n 0 ts ≡ None → (j : ℕ) (a : Attempt) → slice_get ts j ≡ Some a → is_committed a.outcome ≡ false → a.at ≤ n
+seen_of n ts e j a there off = seen_within n a off (subst (λ (x : Attempt). is_beyond n x ≡ false) (get_or_from_slice_get ts j a a there) (none_beyond n 0 ts j a e (slice_get_within ts j a there)))
 
 -- ## A history
-
--- a place that is beyond a number of commits is not reached
-not_within : (n at : ℕ) → nat_lt n at ≡ true → nat_le at n ≡ false
-not_within n at e = lt-leb at n (ltb-true n at e)
-
--- of two that have to hold the first one does not
-first_fails : (a b : Bool) → a ≡ false → (a && b) ≡ false
-first_fails true b e = absurd (cc)
-first_fails false b e = refl
 
 module _ (h : History) where
   abbrev depth : ℕ
@@ -231,24 +198,22 @@ module _ (h : History) where
       subst (λ (o : Option Attempt). IsReason h o s.fault.call (answer_of h o)) (sym there) reason
 
   -- the spot's attempt among all
-  place_of : (P : Attempt → Type 0) (s : Spot) (x : IsSpot P 0 h.attempts s) → slice_get h.attempts s.attempt ≡ Some x.attempt
-  place_of P s x = (let e = x.is in let is : x.place ≡ s.attempt = omega (arith, e) in subst (λ (i : ℕ). slice_get h.attempts i ≡ Some x.attempt) is x.there)
+  place_of : {P : Attempt → Type 0} {s : Spot} (x : IsSpot P 0 h.attempts s) → slice_get h.attempts s.attempt ≡ Some x.attempt
+  place_of {P} {s} x = (let e = x.is in let is : x.place ≡ s.attempt = omega (arith, e) in subst (λ (i : ℕ). slice_get h.attempts i ≡ Some x.attempt) is x.there)
 
   abbrev placed : Option Spot
   placed = position_fault many [] h.attempts
 
   of_position : (s : Spot) → placed ≡ Some s → HasReason h (Some s) (spot_answer h (Some s))
   of_position s e =
-      let P : Attempt → Type 0 = λ a. s.fault.call ≡ None in
       let x = so_at (λ t. IsSpot (λ a. t.fault.call ≡ None) 0 h.attempts t) e (position_spot many [] h.attempts) in
-      at_a_head s x.attempt (place_of P s x) x.holds (first_fails (is_none placed) (is_reached h x.attempt.at) (ap (λ (o : Option Spot). is_none o) e))
+      at_a_head s x.attempt (place_of x) x.holds (and_left (is_none placed) (is_reached h x.attempt.at) (ap (λ (o : Option Spot). is_none o) e))
 
   of_beyond : (s : Spot) → at_fault many 0 h.attempts ≡ Some s → HasReason h (Some s) (spot_answer h (Some s))
   of_beyond s e =
-      let P : Attempt → Type 0 = λ a. (is_beyond many a ≡ true) × (s.fault.call ≡ None) in
       let x = so_at (λ t. IsSpot (λ a. (is_beyond many a ≡ true) × (t.fault.call ≡ None)) 0 h.attempts t) e (beyond_spot many 0 h.attempts) in
-      let far : nat_le x.attempt.at many ≡ false = not_within many x.attempt.at (and_parts (not (is_committed x.attempt.outcome)) (nat_lt many x.attempt.at) x.holds.0).1 in
-      at_a_head s x.attempt (place_of P s x) x.holds.1 (second_fails (is_none placed) (is_reached h x.attempt.at) (first_fails (nat_le x.attempt.at many) (is_none (committed_fault h x.attempt.at)) far))
+      let far : nat_le x.attempt.at many ≡ false = lt-leb x.attempt.at many (ltb-true many x.attempt.at (and_parts (not (is_committed x.attempt.outcome)) (nat_lt many x.attempt.at) x.holds.0).1) in
+      at_a_head s x.attempt (place_of x) x.holds.1 (and_right (is_none placed) (is_reached h x.attempt.at) (and_left (nat_le x.attempt.at many) (is_none (committed_fault h x.attempt.at)) far))
 
   known_at : (at : ℕ) → placed ≡ None → at ≤ many → committed_fault h at ≡ None → is_known h at ≡ true
   known_at at once within right =
@@ -258,21 +223,19 @@ module _ (h : History) where
   of_committed : (s : Spot) → placed ≡ None → committed_fault h many ≡ Some s → HasReason h (Some s) (spot_answer h (Some s))
   of_committed s once e =
       let k = so_at (IsFirst h many) e (first_position h many) in
-      let P : Attempt → Type 0 = λ a. (is_at k.at a ≡ true) × (fault_in depth (memory_at h k.at) a ≡ Some s.fault) in
       let x = so_at (λ t. IsSpot (λ a. (is_at k.at a ≡ true) × (fault_in depth (memory_at h k.at) a ≡ Some t.fault)) 0 h.attempts t) k.wrong (committed_spot depth (memory_at h k.at) k.at 0 h.attempts) in
       let a = x.attempt in
       let is : k.at ≡ a.at = sym (eqb-true a.at k.at (and_parts (is_committed a.outcome) (a.at == k.at) x.holds.0).1) in
       let below = k.below in
       let right : committed_fault h a.at ≡ None = subst (λ (n : ℕ). committed_fault h n ≡ None) is k.right in
-      by_replay s a (place_of P s x) (known_at a.at once (omega (arith, below, is)) right) (subst (λ (n : ℕ). fault_in depth (memory_at h n) a ≡ Some s.fault) is x.holds.1)
+      by_replay s a (place_of x) (known_at a.at once (omega (arith, below, is)) right) (subst (λ (n : ℕ). fault_in depth (memory_at h n) a ≡ Some s.fault) is x.holds.1)
 
   of_other : (s : Spot) → placed ≡ None → at_fault many 0 h.attempts ≡ None → committed_fault h many ≡ None → others_fault h 0 h.attempts ≡ Some s → HasReason h (Some s) (spot_answer h (Some s))
   of_other s once seen right e =
-      let P : Attempt → Type 0 = λ a. (is_committed a.outcome ≡ false) × (fault_in depth (memory_at h a.at) a ≡ Some s.fault) in
       let x = so_at (λ t. IsSpot (λ a. (is_committed a.outcome ≡ false) × (fault_in depth (memory_at h a.at) a ≡ Some t.fault)) 0 h.attempts t) e (other_spot h 0 h.attempts) in
       let a = x.attempt in
-      let within = seen_of many 0 h.attempts seen x.place a x.there x.holds.0 in
-      by_replay s a (place_of P s x) (known_at a.at once within (right_below h many a.at within right)) x.holds.1
+      let within = seen_of many h.attempts seen x.place a x.there x.holds.0 in
+      by_replay s a (place_of x) (known_at a.at once within (right_below h many a.at within right)) x.holds.1
 
   by_parts : (p b c o : Option Spot) → placed ≡ p → at_fault many 0 h.attempts ≡ b → committed_fault h many ≡ c → others_fault h 0 h.attempts ≡ o
       → HasReason h (first_of p (first_of b (first_of c o))) (spot_answer h (first_of p (first_of b (first_of c o))))

@@ -1,12 +1,11 @@
 -- No attempt of a history has a fault exactly where each is one alone on the memory at its position.
-use Rattle.std.proofs.Common.{◌≡◌, ℕ, zero, suc, ◌<◌, ◌≤◌, ◌==◌, Bool, true, false, not, nat_lt, if◌then◌else◌, All, List, [], ◌∷◌, length, get_or, Option, None, Some, refl, sym, ap, subst, ◌∙◌, inl, inr, arith}
-use Rattle.history_checker.proofs.Common.{All-cons, All-head, All-nil, All-tail, Attempt, Fault, History, IsAlone, and_parts, and_right, at_fault, at_head, at_place, cases_Bool, cases_lt, committed_fault, cond-false, cond-true, count_at, depth_of, eqb-true, fault_at, fault_in, first_of, is_at, is_beyond, is_committed, le-ltb, memory_at, one_where, others_fault}
-use Rattle.history_checker.specs.declared.verdict.BadKind.TheVariants as kind
+use Rattle.std.proofs.Common.{◌≡◌, ℕ, zero, suc, ◌<◌, ◌≤◌, ◌==◌, Bool, true, false, not, nat_lt, if◌then◌else◌, All, List, [], ◌∷◌, length, get_or, Option, None, refl, sym, ap, subst, ◌∙◌, inl, inr, arith}
+use Rattle.history_checker.proofs.Common.{All-cons, All-head, All-nil, All-tail, Attempt, Fault, History, IsAlone, and_parts, and_right, at_fault, at_place, cases_Bool, committed_fault, cond-false, cond-true, count_at, depth_of, eqb-true, fault_at, fault_in, first_of, is_at, is_committed, le-ltb, memory_at, one_where, others_fault}
 use Rattle.history_checker.proofs.Legality.Attempts.{alone_from, faultless}
 use Rattle.history_checker.proofs.Legality.Positions.{AtMostOnce, at_its_own, counts_there, once_each, once_there}
-use Rattle.history_checker.proofs.Steps.Ends.{first_nothing}
+use Rattle.history_checker.proofs.Steps.Ends.{right_below}
+use Rattle.history_checker.proofs.Steps.Firsts.{first_nothing, place_none}
 use Rattle.history_checker.proofs.Steps.Tables.{none_beyond, seen_within}
-use Rattle.history_checker.proofs.Steps.Walks.{place_none}
 
 -- ## Snapshots
 
@@ -26,28 +25,20 @@ seen_from n ts once e = λ j d l.
 pub unseen : (n i : ℕ) (ts : List Attempt) → All (λ (a : Attempt). a.at ≤ n) ts → at_fault n i ts ≡ None
 unseen n i [] h = refl
 unseen n i (a ∷ ts) h =
-    cond-false (is_beyond n a) (at_place i (Some (at_head kind.At))) (at_fault n (suc i) ts)
-    (and_right (not (is_committed a.outcome)) (nat_lt n a.at) (le-ltb n a.at (All-head (λ (x : Attempt). x.at ≤ n) a ts h)))
-    ∙ unseen n (suc i) ts (All-tail (λ (x : Attempt). x.at ≤ n) a ts h)
+    rw (and_right (not (is_committed a.outcome)) (nat_lt n a.at) (le-ltb n a.at (All-head (λ (x : Attempt). x.at ≤ n) a ts h))) (unseen n (suc i) ts (All-tail (λ (x : Attempt). x.at ≤ n) a ts h))
 
 -- ## The committed ones
 
 -- with no fault none is found at any position
 committed_each : (h : History) (n : ℕ) → committed_fault h n ≡ None → (k : ℕ) → k < n → fault_at (depth_of h.version) (memory_at h k) k 0 h.attempts ≡ None
-committed_each h zero e k l = absurd (omega (arith, l))
-committed_each h (suc n) e k l =
-    let parts = first_nothing (committed_fault h n) (fault_at (depth_of h.version) (memory_at h n) n 0 h.attempts) e in
-    elim (cases_lt k n) [
-      | inl b ↦ committed_each h n parts.0 k b
-      | inr g ↦ (let is : n ≡ k = omega (arith, l, g) in subst (λ (x : ℕ). fault_at (depth_of h.version) (memory_at h x) x 0 h.attempts ≡ None) is parts.1)
-    ]
+committed_each h n e k l = (first_nothing (committed_fault h k) (fault_at (depth_of h.version) (memory_at h k) k 0 h.attempts) (right_below h n (suc k) (omega (arith, l)) e)).1
 
 -- and where none is found at any there is none
 committed_none : (h : History) (n : ℕ) → ((k : ℕ) → k < n → fault_at (depth_of h.version) (memory_at h k) k 0 h.attempts ≡ None) → committed_fault h n ≡ None
 committed_none h zero each = refl
 committed_none h (suc n) each =
-    let before : committed_fault h n ≡ None = committed_none h n (λ k l. each k (omega (arith, l))) in
-    let here : fault_at (depth_of h.version) (memory_at h n) n 0 h.attempts ≡ None = each n (omega arith) in
+    let before = committed_none h n (λ k l. each k (omega (arith, l))) in
+    let here = each n (omega arith) in
     (λ t. first_of (before t) (here t))
 
 -- where at most one is at the position it is the one that is found
@@ -89,10 +80,8 @@ none_either false i f e = ap (at_place i) e
 others_none : (h : History) (i : ℕ) (ts : List Attempt) → All (λ (a : Attempt). fault_in (depth_of h.version) (memory_at h a.at) a ≡ None) ts → others_fault h i ts ≡ None
 others_none h i [] all = refl
 others_none h i (a ∷ ts) all =
-    let here : (if is_committed a.outcome then None else at_place i (fault_in (depth_of h.version) (memory_at h a.at) a)) ≡ None =
-    none_either (is_committed a.outcome) i (fault_in (depth_of h.version) (memory_at h a.at) a) (All-head (λ (x : Attempt). fault_in (depth_of h.version) (memory_at h x.at) x ≡ None) a ts all) in
-    let rest : others_fault h (suc i) ts ≡ None = others_none h (suc i) ts (All-tail (λ (x : Attempt). fault_in (depth_of h.version) (memory_at h x.at) x ≡ None) a ts all) in
-    (λ t. first_of (here t) (rest t))
+    let here = none_either (is_committed a.outcome) i (fault_in (depth_of h.version) (memory_at h a.at) a) (All-head (λ (x : Attempt). fault_in (depth_of h.version) (memory_at h x.at) x ≡ None) a ts all) in
+    (λ t. first_of (here t) (others_none h (suc i) ts (All-tail (λ (x : Attempt). fault_in (depth_of h.version) (memory_at h x.at) x ≡ None) a ts all) t))
 
 -- ## All attempts
 

@@ -1,8 +1,7 @@
 -- The tests of replies and of actions are true exactly where both are the same.
 use Rattle.std.proofs.Common.{◌≡◌, ℕ, true, ◌&&◌, ◌==◌, if◌then◌else◌, List, refl, sym, ap, subst, ◌∙◌, eq-eqb, eqb-true}
 use Rattle.history_checker.proofs.Common.{Bytes, Code, Decides, Done, IsIrrevocable, NoAbort, NoIrrevocable, OutOfArena, OutOfRange, Outside, Overlap, Ran, Refusal, Refused, Reply, TooDeep, and_from, and_parts, bytes_eq-Decides, bytes_reply, pointwise, same_kind, same_ran, same_reply, slice_eq-Decides}
-use Rattle.itm_types.specs.Refusals.{number_of}
-use Rattle.itm_types.specs.declared.call.ActionKind.{ActionKind}
+use Rattle.itm_types.{specs.Refusals.number_of, specs.declared.call.ActionKind.ActionKind}
 use Rattle.itm_types.specs.declared.call.ActionKind.TheVariants as kinds
 
 -- ## Refusals

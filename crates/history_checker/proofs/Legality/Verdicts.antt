@@ -4,7 +4,7 @@ use Rattle.history_checker.proofs.Common.{Bad, History, IsLegal, Legal, Spot, at
 use Rattle.history_checker.specs.declared.verdict.BadKind.{BadKind}
 use Rattle.history_checker.specs.declared.verdict.BadKind.TheVariants as kind
 use Rattle.history_checker.specs.declared.verdict.Verdict.{Verdict}
-use Rattle.history_checker.proofs.Steps.Ends.{first_nothing}
+use Rattle.history_checker.proofs.Steps.Firsts.{first_nothing}
 use Rattle.history_checker.proofs.Legality.Ends.{ends_decides}
 use Rattle.history_checker.proofs.Legality.Positions.{AtMostOnce, each_once, none_from, once_from}
 use Rattle.history_checker.proofs.Legality.Replays.{all_alone, committed_faultless, others_faultless, seen_from, unseen}

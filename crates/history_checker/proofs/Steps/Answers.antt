@@ -1,19 +1,13 @@
 -- What the machine answers, once the calls before one are made.
 use Rattle.std.proofs.Common.{◌≡◌, ℕ, ◌<◌, ◌≤◌, Bool, true, false, ◌&&◌, List, [], length, get_or, take, refl, sym, ap, subst, ◌∙◌, Option, None, Some, Result, Ok, Err, IfOk, is_none, is_some}
-use Rattle.history_checker.proofs.Common.{Again, Attempt, CallRecord, History, Reaches, Reply, Spot, State, Undoable, and_from, answer_of, answer_on, answer_to, breaks_of, call_answer, cond-false, cond-true, count_committed, depth_of, is_known, is_reached, memory_at, position_fault, reply, slice_get-get_or, slice_get_past, slice_get_read, spot_answer, state_behind, state_through}
-use Rattle.history_checker.proofs.Steps.Calls.{made}
-use Rattle.history_checker.proofs.Steps.Verdicts.{place_is}
+use Rattle.history_checker.proofs.Common.{Again, Attempt, CallRecord, History, Reaches, Reply, Spot, State, Undoable, and_from, and_right, answer_of, answer_on, answer_to, breaks_of, call_answer, cond-false, cond-true, count_committed, depth_of, is_known, is_reached, memory_at, position_fault, reply, slice_get-get_or, slice_get_past, slice_get_read, spot_answer, state_behind, state_through}
+use Rattle.history_checker.{proofs.Steps.Calls.made, proofs.Steps.Verdicts.place_is}
 
 pub answered_there : (deepest : ℕ) (rs : List Again) (s0 : State) (es : List CallRecord) (i : ℕ) (e : CallRecord) (n : ℕ) (s : State) (r : Reply) → i < length es → e ≡ get_or es i e → n ≡ deepest
     → s ≡ state_through deepest (breaks_of rs) s0 (made (take i es)) → r ≡ reply n s e.call → Some r ≡ call_answer deepest rs s0 es (Some i)
 answered_there deepest rs s0 es i e n s r h is depth state told =
     ap (λ (x : Reply). Some x) (told ∙ (λ t. reply (depth t) (state t) e.call))
     ∙ sym (ap (answer_to deepest (state_behind deepest rs s0 es i)) (slice_get_read es (length es) i e refl h is))
-
--- of two that have to hold the second one does not
-pub second_fails : (a b : Bool) → b ≡ false → (a && b) ≡ false
-second_fails true b e = e
-second_fails false b e = refl
 
 pub some_is_not_none : {A : Type 0} (o : Option A) → is_some o ≡ true → is_none o ≡ false
 some_is_not_none None e = absurd (cc)
@@ -31,7 +25,7 @@ module _ (h : History) (a : Attempt) where
 
   -- it is not known where so many have not committed, or one of these is wrong
   pub not_reached : is_reached h a.at ≡ false → None ≡ answer_of h (Some a)
-  not_reached off = unknown (second_fails (is_none (position_fault (count_committed h.attempts) [] h.attempts)) (is_reached h a.at) off)
+  not_reached off = unknown (and_right (is_none (position_fault (count_committed h.attempts) [] h.attempts)) (is_reached h a.at) off)
 
   module _ (ts : List Attempt) (n : ℕ) (f : Option Spot) (all : ts ≡ h.attempts) (count : n ≡ count_committed ts) (fault : f ≡ position_fault n [] ts) where
     placed : is_none f ≡ is_none (position_fault (count_committed h.attempts) [] h.attempts)

@@ -1,8 +1,7 @@
 -- What a history's end says, one attempt after the other.
 use Rattle.std.proofs.Common.{◌≡◌, ℕ, zero, suc, ◌+◌, ◌<◌, ◌≤◌, Bool, true, false, not, ◌&&◌, ◌||◌, ◌==◌, if◌then◌else◌, is_some, List, [], ◌∷◌, length, get_or, take, map, sum_by, refl, ap, sym, ◌∙◌, arith, inl, inr, Option, None, Some}
 use Rattle.history_checker.proofs.Common.{AreTold, Attempt, Fault, History, IsTold, Outcome, Spot, Told, Unfinished, Version, alone, at_fault, at_place, cases_lt, committed_fault, common_steps, count_holding, depth_of, fault_at, fault_in, first_of, first_row, head_row, is_away, is_beyond, is_committed, is_holding, is_unfinished, line_count, memory_at, nothing_told, one_where, others_fault, told_away, told_fault, told_holding, told_of, told_on, told_row, unless_fault}
-use Rattle.history_checker.proofs.Steps.Tables.{none_beyond, seen_within}
-use Rattle.history_checker.proofs.Steps.Walks.{place_none}
+use Rattle.history_checker.{proofs.Steps.Tables.none_beyond, proofs.Steps.Tables.seen_within, proofs.Steps.Firsts.first_nothing, proofs.Steps.Firsts.place_none}
 
 -- ## The first fault of a committed attempt
 
@@ -16,6 +15,14 @@ fault_stays h k s (suc n) e l = elim (cases_lt n k) [
 some_stays : (h : History) (k n : ℕ) (f : Option Spot) → f ≡ committed_fault h k → is_some f ≡ true → k ≤ n → f ≡ committed_fault h n
 some_stays h k n None e s l = cc
 some_stays h k n (Some x) e s l = sym (fault_stays h k x n (sym e) l)
+
+-- where nothing is wrong with so many first ones, nothing is with fewer
+pub right_below : (h : History) (n k : ℕ) → k ≤ n → committed_fault h n ≡ None → committed_fault h k ≡ None
+right_below h n k l e = by_fault (committed_fault h k) refl
+  where
+    by_fault : (o : Option Spot) → committed_fault h k ≡ o → o ≡ None
+    by_fault None is = refl
+    by_fault (Some s) is = sym (fault_stays h k s n is l) ∙ e
 
 pub committed_first : (h : History) (k n : ℕ) (f : Option Spot) → committed_fault h k ≡ None → f ≡ fault_at (depth_of h.version) (memory_at h k) k 0 h.attempts → is_some f ≡ true → k < n → f ≡ committed_fault h n
 committed_first h k n f none e s l =
@@ -37,12 +44,11 @@ row_last v ts i place h l =
 
 lists_same : (f : Attempt → Told) (told : List Told) (ts : List Attempt) (e : Told) → length told ≡ length ts → ((j : ℕ) (d : Attempt) → j < length ts → get_or told j e ≡ f (get_or ts j d)) → told ≡ map f ts
 lists_same f [] [] e h g = refl
-lists_same f [] (t ∷ ts) e h g = absurd (omega (arith, h))
-lists_same f (x ∷ xs) [] e h g = absurd (omega (arith, h))
 lists_same f (x ∷ xs) (t ∷ ts) e h g =
-    let head : x ≡ f t = g 0 t (omega arith) in
+    let head = g 0 t (omega arith) in
     let tail = lists_same f xs ts e (omega (arith, h)) (λ j d l. g (suc j) d (omega (arith, l))) in
     (λ i. head i ∷ tail i)
+lists_same f told ts e h g = absurd (omega (arith, h))
 
 is_told : (n j : ℕ) (ts : List Attempt) (a : Attempt) (b : Bool) → is_committed a.outcome ≡ b → is_beyond n a ≡ false → IsTold (suc n) (length ts) j a
 is_told n j ts a true e off = inl e
@@ -59,15 +65,7 @@ other_told h i a false = refl
 
 pub others_told : (h : History) (i : ℕ) (ts : List Attempt) → others_fault h i ts ≡ told_fault i (map (told_of h) ts)
 others_told h i [] = refl
-others_told h i (a ∷ ts) =
-    let here : (if is_committed a.outcome then None else at_place i (fault_in (depth_of h.version) (memory_at h a.at) a)) ≡ at_place i (told_of h a).fault = other_told h i a (is_committed a.outcome) in
-    let rest = others_told h (suc i) ts in
-    (λ t. first_of (here t) (rest t))
-
--- where no first one of two is there neither is
-pub first_nothing : {A : Type 0} (f g : Option A) → first_of f g ≡ None → (f ≡ None) × (g ≡ None)
-first_nothing None g e = (refl, e)
-first_nothing (Some x) g e = absurd (cc)
+others_told h i (a ∷ ts) = λ t. first_of (other_told h i a (is_committed a.outcome) t) (others_told h (suc i) ts t)
 
 ended_or_not : (o : Outcome) → is_committed o ≡ true → is_unfinished o ≡ false
 ended_or_not Unfinished e = sym e
@@ -78,22 +76,14 @@ unfolding told_on
 held h i a true e f = sym (ap (λ (u : Bool). u && (alone (depth_of h.version) (memory_at h a.at) a).irrevocable) (ended_or_not a.outcome e))
 held h i a false e f = ap (λ (g : Option Fault). unless_fault g (is_unfinished a.outcome && (alone (depth_of h.version) (memory_at h a.at) a).irrevocable)) (place_none i (fault_in (depth_of h.version) (memory_at h a.at) a) f)
 
-pub held_here : (h : History) (i : ℕ) (a : Attempt) (ts : List Attempt) → others_fault h i (a ∷ ts) ≡ None → (told_of h a).holds ≡ is_holding h a
-held_here h i a ts e = held h i a (is_committed a.outcome) refl (first_nothing (if is_committed a.outcome then None else at_place i (fault_in (depth_of h.version) (memory_at h a.at) a)) (others_fault h (suc i) ts) e).0
-
-none_later : (h : History) (i : ℕ) (a : Attempt) (ts : List Attempt) → others_fault h i (a ∷ ts) ≡ None → others_fault h (suc i) ts ≡ None
-none_later h i a ts e = (first_nothing (if is_committed a.outcome then None else at_place i (fault_in (depth_of h.version) (memory_at h a.at) a)) (others_fault h (suc i) ts) e).1
+-- of an attempt among others of which none has a fault it is told whether it holds the clock
+held_here : (h : History) (i : ℕ) (a : Attempt) (ts : List Attempt) → others_fault h i (a ∷ ts) ≡ None → ((told_of h a).holds ≡ is_holding h a) × (others_fault h (suc i) ts ≡ None)
+held_here h i a ts e = let parts = first_nothing (if is_committed a.outcome then None else at_place i (fault_in (depth_of h.version) (memory_at h a.at) a)) (others_fault h (suc i) ts) e in (held h i a (is_committed a.outcome) refl parts.0, parts.1)
 
 pub holding_told : (h : History) (i : ℕ) (ts : List Attempt) → others_fault h i ts ≡ None → told_holding (map (told_of h) ts) ≡ count_holding h ts
 holding_told h i [] e = refl
-holding_told h i (a ∷ ts) e =
-    let here = held_here h i a ts e in
-    let rest = holding_told h (suc i) ts (none_later h i a ts e) in
-    (λ t. one_where (here t) + rest t)
+holding_told h i (a ∷ ts) e = let here = held_here h i a ts e in (λ t. one_where (here.0 t) + holding_told h (suc i) ts here.1 t)
 
 pub away_told : (h : History) (n i : ℕ) (ts : List Attempt) → others_fault h i ts ≡ None → told_away n ts (map (told_of h) ts) ≡ is_away h n ts
 away_told h n i [] e = refl
-away_told h n i (a ∷ ts) e =
-    let here = held_here h i a ts e in
-    let rest = away_told h n (suc i) ts (none_later h i a ts e) in
-    (λ t. (here t && not (a.at == n)) || rest t)
+away_told h n i (a ∷ ts) e = let here = held_here h i a ts e in (λ t. (here.0 t && not (a.at == n)) || away_told h n (suc i) ts here.1 t)

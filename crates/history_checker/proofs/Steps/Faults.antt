@@ -15,25 +15,13 @@ pub fault_begun : (deepest : ℕ) (m : List ℕ) (a : Attempt) → may_stand a �
 unfolding fault_in
 fault_begun deepest m a h = cond-true (may_stand a) _ _ h
 
-first_some : (f g : Option Fault) → is_some f ≡ true → first_of f g ≡ f
-first_some None g h = cc
-first_some (Some x) g h = refl
-
-first_none : (f g : Option Fault) → is_some f ≡ false → first_of f g ≡ g
-first_none None g h = refl
-first_none (Some x) g h = cc
-
 pub fault_early : (deepest : ℕ) (m : List ℕ) (a : Attempt) (f : Option Fault) → may_stand a ≡ true → f ≡ called_fault deepest m a → is_some f ≡ true → f ≡ fault_in deepest m a
-fault_early deepest m a f r e h =
-    sym (first_some f (end_fault deepest m a (alone deepest m a)) h) ∙ (ap (λ g. first_of g (end_fault deepest m a (alone deepest m a))) e ∙ sym (fault_begun deepest m a r))
+fault_early deepest m a None r e h = absurd (cc)
+fault_early deepest m a (Some x) r e h = ap (λ g. first_of g (end_fault deepest m a (alone deepest m a))) e ∙ sym (fault_begun deepest m a r)
 
 pub fault_late : (deepest : ℕ) (m : List ℕ) (a : Attempt) (f : Option Fault) → may_stand a ≡ true → f ≡ called_fault deepest m a → is_some f ≡ false → end_fault deepest m a (alone deepest m a) ≡ fault_in deepest m a
-fault_late deepest m a f r e h =
-    sym (first_none f (end_fault deepest m a (alone deepest m a)) h) ∙ (ap (λ g. first_of g (end_fault deepest m a (alone deepest m a))) e ∙ sym (fault_begun deepest m a r))
-
-pub none_of : (f : Option Fault) → is_some f ≡ false → f ≡ None
-none_of None h = refl
-none_of (Some x) h = cc
+fault_late deepest m a None r e h = ap (λ g. first_of g (end_fault deepest m a (alone deepest m a))) e ∙ sym (fault_begun deepest m a r)
+fault_late deepest m a (Some x) r e h = absurd (cc)
 
 -- ## What is told
 

@@ -1,7 +1,9 @@
 -- Tables of attempts, with one attempt more.
 use Rattle.std.proofs.Common.{◌≡◌, inl, inr, ℕ, zero, suc, ◌+◌, ◌<◌, ◌≤◌, Bool, true, false, not, ◌&&◌, ◌||◌, ◌==◌, nat_lt, nat_le, if◌then◌else◌, is_some, List, [], ◌∷◌, ◌++◌, length, get_or, take, drop, refl, ap, sym, ◌∙◌, arith, add-one, zero-add, drop-cons, length-append, Option, None, Some}
-use Rattle.history_checker.proofs.Common.{AreLinks, AreSlots, Attempt, at_fault, at_head, at_place, cases_eq, cases_lt, cond-false, cond-true, count_at, count_committed, eq-eqb, eqb-true, first_at, first_of, get_or-append_seam, get_or-set_other, get_or-set_same, get_or_append_left, is_at, is_beyond, is_committed, is_misplaced, is_other, last_other, le-leb, length-set, length-take-le, lt-ltb, one_where, position_fault, set, take-suc}
+use Rattle.history_checker.proofs.Common.{AreLinks, AreSlots, Attempt, at_fault, at_head, at_place, cases_eq, cases_lt, cond-false, cond-true, count_at, count_committed, eq-eqb, eqb-true, first_at, first_of, get_or-append_seam, get_or-set_other, get_or_append_left, is_at, is_beyond, is_committed, is_misplaced, is_other, last_other, le-leb, length-set, length-take-le, lt-ltb, ne_eqb, one_where, position_fault, set, take-suc}
 use Rattle.history_checker.specs.declared.verdict.BadKind.TheVariants as kind
+use Rattle.std.{proofs.lemmas.Grind.get_or-set_at, proofs.lemmas.List.get_or_default}
+use Rattle.history_checker.proofs.Steps.Firsts.{passed_over}
 
 -- ## Counts
 
@@ -76,52 +78,36 @@ last_next ts i d k h =
 
 -- ## Tables
 
--- a test that is false is not true
-not_true : (b : Bool) → (b ≡ true → ⊥) → b ≡ false
-not_true true h = absurd (h refl)
-not_true false h = refl
+-- a table in which one place is set
+set_there : (table : List (Option ℕ)) (at i k : ℕ) → k < length table → get_or (set table at (Some i)) k None ≡ (if at == k then Some i else get_or table k None)
+set_there table at i k l = elim (cases_eq k at) [
+  | inl is ↦ rw (eq-eqb at k (sym is)) (get_or-set_at table at k (Some i) None is (omega (arith, l, is)))
+  | inr ne ↦ rw (ne_eqb at k (λ e. ne (sym e))) (get_or-set_other table at k (Some i) None ne)
+]
 
-first_or_none : (o : Option ℕ) (b : Bool) (i : ℕ) → b ≡ false → first_of o (if b then Some i else None) ≡ o
-first_or_none None b i h = cond-false b (Some i) None h
-first_or_none (Some x) b i h = refl
-
-none_then : (o : Option ℕ) (b : Bool) (i : ℕ) → o ≡ None → b ≡ true → first_of o (if b then Some i else None) ≡ Some i
-none_then None b i e h = cond-true b (Some i) None h
-none_then (Some x) b i e h = cc
+set_free : (b : Bool) (i : ℕ) (o : Option ℕ) → (b ≡ true → o ≡ None) → (if b then Some i else o) ≡ first_of o (if b then Some i else None)
+set_free true i o free = ap (λ (x : Option ℕ). first_of x (Some i)) (sym (free refl))
+set_free false i None free = refl
+set_free false i (Some x) free = refl
 
 pub slots_same : (n : ℕ) (ts : List Attempt) (i : ℕ) (d : Attempt) (slots : List (Option ℕ)) → i < length ts → is_committed (get_or ts i d).outcome ≡ false
     → AreSlots n (take i ts) slots → AreSlots n (take (i + 1) ts) slots
 slots_same n ts i d slots h e s = record {
   size = s.size;
-  each = λ k l. let a = get_or ts i d in
-      let off : is_at k a ≡ false = ap (λ b. b && (a.at == k)) e in
-      s.each k l ∙ sym (first_next ts i d k h ∙ first_or_none (first_at 0 (take i ts) k) (is_at k a) i off);
+  each = λ k l. let off : is_at k (get_or ts i d) ≡ false = ap (λ b. b && ((get_or ts i d).at == k)) e in
+      s.each k l ∙ (set_free false i (first_at 0 (take i ts) k) (λ no. absurd (cc)) ∙ ((λ t. first_of (first_at 0 (take i ts) k) (if sym off t then Some i else None)) ∙ sym (first_next ts i d k h)));
 }
-
-placed_other : (n : ℕ) (ts : List Attempt) (i : ℕ) (d : Attempt) (slots : List (Option ℕ)) → i < length ts → AreSlots n (take i ts) slots
-    → (k : ℕ) → k < n → (k ≡ (get_or ts i d).at → ⊥) → get_or (set slots (get_or ts i d).at (Some i)) k None ≡ first_at 0 (take (i + 1) ts) k
-placed_other n ts i d slots h s k l ne =
-    let a = get_or ts i d in
-    let eq : (a.at == k) ≡ false = not_true (a.at == k) (λ t. ne (sym (eqb-true a.at k t))) in
-    let off : is_at k a ≡ false = elim (is_committed a.outcome) as (λ b. (b && (a.at == k)) ≡ false) [ true ↦ eq | false ↦ refl ] in
-    get_or-set_other slots a.at k (Some i) None ne ∙ (s.each k l ∙ sym (first_next ts i d k h ∙ first_or_none (first_at 0 (take i ts) k) (is_at k a) i off))
-
-placed_here : (n : ℕ) (ts : List Attempt) (i : ℕ) (d : Attempt) (slots : List (Option ℕ)) → i < length ts → is_committed (get_or ts i d).outcome ≡ true
-    → get_or slots (get_or ts i d).at None ≡ None → AreSlots n (take i ts) slots
-    → (k : ℕ) → k < n → k ≡ (get_or ts i d).at → get_or (set slots (get_or ts i d).at (Some i)) k None ≡ first_at 0 (take (i + 1) ts) k
-placed_here n ts i d slots h e free s k l is =
-    let a = get_or ts i d in
-    let on : is_at k a ≡ true = ap (λ b. b && (a.at == k)) e ∙ eq-eqb a.at k (sym is) in
-    let none : first_at 0 (take i ts) k ≡ None = sym (s.each k l) ∙ (ap (λ (m : ℕ). get_or slots m None) is ∙ free) in
-    ap (λ (m : ℕ). get_or (set slots a.at (Some i)) m None) is
-    ∙ (get_or-set_same slots a.at (Some i) None (omega (arith, s.size, l, is))
-    ∙ sym (first_next ts i d k h ∙ none_then (first_at 0 (take i ts) k) (is_at k a) i none on))
 
 pub slots_next : (n : ℕ) (ts : List Attempt) (i : ℕ) (d : Attempt) (slots : List (Option ℕ)) → i < length ts → is_committed (get_or ts i d).outcome ≡ true
     → get_or slots (get_or ts i d).at None ≡ None → AreSlots n (take i ts) slots → AreSlots n (take (i + 1) ts) (set slots (get_or ts i d).at (Some i))
 slots_next n ts i d slots h e free s = record {
   size = length-set slots (get_or ts i d).at (Some i) ∙ s.size;
-  each = λ k l. elim (cases_eq k (get_or ts i d).at) [ inl is ↦ placed_here n ts i d slots h e free s k l is | inr ne ↦ placed_other n ts i d slots h s k l ne ];
+  each = λ k l.
+      let a = get_or ts i d in
+      let at : is_at k a ≡ (a.at == k) = ap (λ b. b && (a.at == k)) e in
+      set_there slots a.at i k (omega (arith, s.size, l))
+      ∙ (set_free (a.at == k) i (get_or slots k None) (λ on. ap (λ (m : ℕ). get_or slots m None) (sym (eqb-true a.at k on)) ∙ free)
+      ∙ ((λ t. first_of (s.each k l t) (if sym at t then Some i else None)) ∙ sym (first_next ts i d k h)));
 }
 
 -- a place that is taken, by the table and by the count
@@ -135,26 +121,16 @@ taken_as_counted n xs slots at s = elim (cases_lt at n) [
 
 -- ## Links
 
-within_first : (n i : ℕ) (a : Attempt) (ts : List Attempt) → at_fault n i (a ∷ ts) ≡ None → is_beyond n a ≡ false
-within_first n i a ts e = not_true (is_beyond n a) (λ t. let f : at_place i (Some (at_head kind.At)) ≡ None = sym (cond-true (is_beyond n a) (at_place i (Some (at_head kind.At))) (at_fault n (suc i) ts) t) ∙ e in cc)
-
 pub none_beyond : (n i : ℕ) (ts : List Attempt) (j : ℕ) (d : Attempt) → at_fault n i ts ≡ None → j < length ts → is_beyond n (get_or ts j d) ≡ false
 none_beyond n i [] j d e h = absurd (omega (arith, h))
-none_beyond n i (a ∷ ts) zero d e h = within_first n i a ts e
-none_beyond n i (a ∷ ts) (suc j) d e h =
-    none_beyond n (suc i) ts j d (sym (cond-false (is_beyond n a) (at_place i (Some (at_head kind.At))) (at_fault n (suc i) ts) (within_first n i a ts e)) ∙ e) (omega (arith, h))
+none_beyond n i (a ∷ ts) zero d e h = (passed_over (is_beyond n a) _ (at_fault n (suc i) ts) e).0
+none_beyond n i (a ∷ ts) (suc j) d e h = none_beyond n (suc i) ts j d (passed_over (is_beyond n a) _ (at_fault n (suc i) ts) e).1 (omega (arith, h))
 
 pub seen_within : (n : ℕ) (a : Attempt) → is_committed a.outcome ≡ false → is_beyond n a ≡ false → a.at ≤ n
 seen_within n a e b = elim (cases_lt n a.at) [
   | inl l ↦ let t : is_beyond n a ≡ true = ap (λ x. not x && nat_lt n a.at) e ∙ lt-ltb n a.at l in cc
   | inr g ↦ g
 ]
-
--- what is read of a list does not depend on what is read past its end
-pub same_item : (ts : List Attempt) (i : ℕ) (d e : Attempt) → i < length ts → get_or ts i d ≡ get_or ts i e
-same_item [] i d e h = absurd (omega (arith, h))
-same_item (a ∷ ts) zero d e h = refl
-same_item (a ∷ ts) (suc i) d e h = same_item ts i d e (omega (arith, h))
 
 -- the table of older ones, with one more
 older_before : (n : ℕ) (ts : List Attempt) (i : ℕ) (d : Attempt) (newest older : List (Option ℕ)) (o : Option ℕ) → i < length ts → AreLinks n ts i newest older
@@ -164,7 +140,7 @@ older_before n ts i d newest older o h s here j f l e = elim (cases_lt j i) [
   | inl b ↦ get_or_append_left older (o ∷ []) None j (omega (arith, s.as_many, b)) ∙ s.before j f b e
   | inr g ↦
       let is : j ≡ i = omega (arith, l, g) in
-      let item : get_or ts j f ≡ get_or ts i d = ap (λ (m : ℕ). get_or ts m f) is ∙ same_item ts i f d h in
+      let item : get_or ts j f ≡ get_or ts i d = ap (λ (m : ℕ). get_or ts m f) is ∙ get_or_default ts i f d h in
       let at : get_or (older ++ o ∷ []) j None ≡ o = ap (λ (m : ℕ). get_or (older ++ o ∷ []) m None) (is ∙ sym s.as_many) ∙ get_or-append_seam older o [] None in
       at ∙ (here (ap (λ (a : Attempt). is_committed a.outcome) (sym item) ∙ e) ∙ (ap (λ (m : ℕ). last_other 0 (take m ts) (get_or ts i d).at) (sym is) ∙ ap (λ (a : Attempt). last_other 0 (take j ts) a.at) (sym item)))
 ]
@@ -183,29 +159,15 @@ links_same n ts i d newest older h e s = record {
   before = older_before n ts i d newest older None h s (λ f. let no : true ≡ false = sym e ∙ f in cc);
 }
 
-linked_here : (n : ℕ) (ts : List Attempt) (i : ℕ) (d : Attempt) (newest older : List (Option ℕ)) → i < length ts → is_committed (get_or ts i d).outcome ≡ false
-    → AreLinks n ts i newest older → (k : ℕ) → k ≤ n → k ≡ (get_or ts i d).at → get_or (set newest (get_or ts i d).at (Some i)) k None ≡ last_other 0 (take (i + 1) ts) k
-linked_here n ts i d newest older h e s k l is =
-    let a = get_or ts i d in
-    let on : is_other k a ≡ true = ap (λ b. not b && (a.at == k)) e ∙ eq-eqb a.at k (sym is) in
-    ap (λ (m : ℕ). get_or (set newest a.at (Some i)) m None) is
-    ∙ (get_or-set_same newest a.at (Some i) None (omega (arith, s.size, l, is))
-    ∙ sym (last_next ts i d k h ∙ cond-true (is_other k a) (Some i) (last_other 0 (take i ts) k) on))
-
-linked_other : (n : ℕ) (ts : List Attempt) (i : ℕ) (d : Attempt) (newest older : List (Option ℕ)) → i < length ts
-    → AreLinks n ts i newest older → (k : ℕ) → k ≤ n → (k ≡ (get_or ts i d).at → ⊥) → get_or (set newest (get_or ts i d).at (Some i)) k None ≡ last_other 0 (take (i + 1) ts) k
-linked_other n ts i d newest older h s k l ne =
-    let a = get_or ts i d in
-    let eq : (a.at == k) ≡ false = not_true (a.at == k) (λ t. ne (sym (eqb-true a.at k t))) in
-    let off : is_other k a ≡ false = elim (is_committed a.outcome) as (λ b. (not b && (a.at == k)) ≡ false) [ true ↦ refl | false ↦ eq ] in
-    get_or-set_other newest a.at k (Some i) None ne ∙ (s.last k l ∙ sym (last_next ts i d k h ∙ cond-false (is_other k a) (Some i) (last_other 0 (take i ts) k) off))
-
 pub links_next : (n : ℕ) (ts : List Attempt) (i : ℕ) (d : Attempt) (newest older : List (Option ℕ)) → i < length ts → is_committed (get_or ts i d).outcome ≡ false → (get_or ts i d).at ≤ n
     → AreLinks n ts i newest older → AreLinks n ts (i + 1) (set newest (get_or ts i d).at (Some i)) (older ++ get_or newest (get_or ts i d).at None ∷ [])
 links_next n ts i d newest older h e w s = record {
   size = length-set newest (get_or ts i d).at (Some i) ∙ s.size;
   as_many = longer older (get_or newest (get_or ts i d).at None) i s.as_many;
-  last = λ k l. elim (cases_eq k (get_or ts i d).at) [ inl is ↦ linked_here n ts i d newest older h e s k l is | inr ne ↦ linked_other n ts i d newest older h s k l ne ];
+  last = λ k l.
+      let a = get_or ts i d in
+      let on : is_other k a ≡ (a.at == k) = ap (λ b. not b && (a.at == k)) e in
+      set_there newest a.at i k (omega (arith, s.size, l)) ∙ ((λ t. if sym on t then Some i else s.last k l t) ∙ sym (last_next ts i d k h));
   before = older_before n ts i d newest older (get_or newest (get_or ts i d).at None) h s (λ f. s.last (get_or ts i d).at w);
 }
 

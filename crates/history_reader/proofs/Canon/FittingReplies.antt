@@ -1,11 +1,11 @@
 -- A reply of the plain machine is of the kind that its call has.
 use Rattle.std.proofs.Common.{◌≡◌, ℕ, ◌≤◌, Bool, true, if◌then◌else◌, List, [], ◌∷◌, map, All, Option, None, Some, refl, sym, subst, arith, lit≤}
-use Rattle.history_reader.proofs.Common.{All-cons, All-head, All-nil, All-tail, Breaks, Call, CallFits, CallRecord, EntryFits, HasArenaWidth, IsCall, IsEntry, IsReply, OutOfArena, OutOfRange, Refusal, ReplyFits, ReplyKind, after, answer, answer_to, canonical_call, canonical_entry, later, later_none, length-slice, refusal, replies_through as replies_to, reply, reply_unless, size_of, standing}
+use Rattle.history_reader.proofs.Common.{All-cons, All-head, All-nil, All-tail, Breaks, Call, CallFits, CallRecord, EntryFits, HasArenaWidth, IsCall, IsEntry, IsReply, OutOfArena, OutOfRange, Refusal, ReplyFits, ReplyKind, after, answer, answer_to, canonical_call, canonical_entry, later, refusal, replies_through as replies_to, reply, reply_unless, size_of, standing}
 use Rattle.itm_types.specs.declared.call.Call.TheVariants as calls
 use Rattle.itm_types.specs.declared.call.Reply.TheVariants as replies
-use Rattle.itm_model.specs.State.{State}
-use Rattle.tx_history.proofs.PlainSizes.{within}
+use Rattle.itm_model.{specs.State.State, proofs.Journals.Rollbacks.length-slice, proofs.KeptEffects.later_none, proofs.KeptEffects.within}
 use Rattle.history_reader.specs.declared.reply.ReplyKind.TheVariants as answers
+use Rattle.tx_history.proofs.Runs.AloneCalls.{same_head, same_tail}
 use Rattle.history_reader.proofs.Canon.Runs.{calls_in, replies_in}
 
 -- ## Replies
@@ -58,12 +58,6 @@ call_is (calls.UndoAction action) f w = f
 call_is (calls.Load width at) f w = (w, f)
 call_is (calls.Save at value) f w = (w, f.0, f.1)
 
-same_first : {A : Type 0} (x y : A) (xs ys : List A) → x ∷ xs ≡ y ∷ ys → x ≡ y
-same_first x y xs ys e = cc
-
-same_later : {A : Type 0} (x y : A) (xs ys : List A) → x ∷ xs ≡ y ∷ ys → xs ≡ ys
-same_later x y xs ys e = cc
-
 entry_is : (deepest : ℕ) (s : State) (e : CallRecord) → e.reply ≡ reply deepest s e.call → EntryFits e → HasArenaWidth e.call → IsEntry (canonical_entry e)
 entry_is deepest s e is f w = (
   call_is e.call f.0 w,
@@ -75,5 +69,5 @@ pub entries_are : (deepest : ℕ) (breaks : Breaks) (s : State) (es : List CallR
 entries_are deepest breaks s [] is f w = All-nil IsEntry
 entries_are deepest breaks s (e ∷ es) is f w =
     All-cons IsEntry (canonical_entry e) (map canonical_entry es)
-    (entry_is deepest s e (same_first _ _ _ _ is) (All-head EntryFits e es f) (All-head (λ (e : CallRecord). HasArenaWidth e.call) e es w))
-    (entries_are deepest (later breaks) (breaks 1 (after deepest s e.call)) es (same_later _ _ _ _ is) (All-tail EntryFits e es f) (All-tail (λ (e : CallRecord). HasArenaWidth e.call) e es w))
+    (entry_is deepest s e (same_head _ _ _ _ is) (All-head EntryFits e es f) (All-head (λ (e : CallRecord). HasArenaWidth e.call) e es w))
+    (entries_are deepest (later breaks) (breaks 1 (after deepest s e.call)) es (same_tail _ _ _ _ is) (All-tail EntryFits e es f) (All-tail (λ (e : CallRecord). HasArenaWidth e.call) e es w))

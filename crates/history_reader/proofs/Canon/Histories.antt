@@ -2,8 +2,7 @@
 use Rattle.std.proofs.Common.{◌≡◌, ◌⊎◌, inl, inr, ℕ, zero, suc, ◌+◌, ◌≤◌, Bool, true, false, ◌&&◌, if◌then◌else◌, nat_lt, List, [], ◌∷◌, map, All, Option, None, Some, refl, sym, ap, subst, ◌∙◌}
 use Rattle.history_reader.proofs.Common.{All-map, All-weaker, Attempt, EndsFree, EndsHeld, History, IsAlone, IsLegal, alone, canonical, canonical_attempt, committed_at, count_at, count_committed, count_holding, is_at, is_committed, is_holding, is_unfinished, map-append, memory_after, memory_at, memory_left, one_where, option_map}
 use Rattle.itm_model.specs.State.{State}
-use Rattle.history_reader.proofs.Canon.Runs.{same_alone}
-use Rattle.history_reader.proofs.Canon.Attempts.{canonical_alone}
+use Rattle.history_reader.{proofs.Canon.Runs.same_alone, proofs.Canon.Attempts.canonical_alone}
 use Rattle.tx_history.specs.Versions.{depth_of}
 
 -- ## Positions

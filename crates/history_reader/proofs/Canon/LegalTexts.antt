@@ -1,13 +1,13 @@
 -- The text of a legal history, of which each number fits its type and each size its limit, is that of its canonical one, which a text can tell and which is legal.
 use Rattle.std.proofs.Common.{◌≡◌, ◌⊎◌, inl, inr, ℕ, List, length, map, get_or, refl, sym, ap, ◌∙◌}
-use Rattle.history_reader.proofs.Common.{Again, AgainFits, All-map, AreLimited, Attempt, AttemptFits, EndsFree, EndsHeld, History, HistoryFits, IsAlone, IsAttempt, IsHistory, IsLegal, IsLimited, IsTold, IsUndone, MayTell, One, Three, Two, Version, breaks_of, canonical, canonical_again, canonical_attempt, canonical_undone, count_committed, history_text, memory_at, opened, read_of, sized_at}
+use Rattle.history_reader.proofs.Common.{Again, AgainFits, All-map, AreLimited, Attempt, AttemptFits, EndsFree, EndsHeld, History, HistoryFits, IsAlone, IsAttempt, IsHistory, IsLegal, IsLimited, IsTold, IsUndone, MayTell, One, Three, Two, Version, breaks_of, canonical, canonical_again, canonical_attempt, canonical_undone, count_committed, history_text, memory_at, opened, read_of}
 use Rattle.history_reader.specs.LegalTexts.{IsLegalText}
 use Rattle.history_reader.proofs.RoundTrips.Texts.{read_again}
 use Rattle.history_reader.proofs.Canon.Attempts.{stand_so}
 use Rattle.history_reader.proofs.Canon.Histories.{canonical_legal}
 use Rattle.history_reader.proofs.Canon.Texts.{canonical_text}
 use Rattle.history_reader.proofs.Canon.FittingReplies.{entries_are}
-use Rattle.tx_history.specs.Versions.{depth_of}
+use Rattle.tx_history.{specs.Versions.depth_of, proofs.PlainSizes.sized_at}
 
 told_is : (a : Again) → AgainFits a → IsTold (canonical_again a)
 told_is a f = (f.arena, All-map IsUndone canonical_undone a.undone (λ k d l. (refl, f.undone k d l)))

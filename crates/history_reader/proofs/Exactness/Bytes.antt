@@ -1,9 +1,8 @@
 -- Lower-case digits are those of the bytes that they say.
 use Rattle.std.proofs.Common.{◌≡◌, ℕ, zero, suc, ◌+◌, ◌-◌, ◌*◌, ◌/◌, ◌%◌, ◌<◌, ◌≤◌, Bool, true, cond, eqb, leb, not, ◌&&◌, List, [], ◌∷◌, length, get_or, Option, Some, None, Ok, Err, refl, sym, ap, ◌∙◌, arith, inl, inr, bytes_eq, codes}
 use Rattle.history_reader.proofs.Common.{IfOk, IfOk-at_ok, IfSome, IsBytes, IsMemory, MAX_ARENA, and_parts, are_words, arena_bytes, arena_text, bind_if, bytes_eq-Decides, bytes_if, choice_if, decode_of-even, decode_of-hex, decode_pairs, decoded, digit_or_error, encode_lower, encode_with, eqb-true, hex_digit_value, is_lower_digit, is_lower_hex, le-leb, leb-true, list_all, lower_digits, lt-leb, memory_bytes, ne_eqb, or_cases, pair_value, restart_bytes, sized, value_at}
-use Rattle.script_fields.specs.declared.fault.AsmKind.TheVariants as kinds
-use Rattle.history_reader.proofs.Values.{hex_is, some_said}
-use Rattle.history_reader.proofs.Exactness.Fields.{Exact}
+use Rattle.script_fields.specs.declared.fault.FaultKind.TheVariants as kinds
+use Rattle.history_reader.{proofs.Values.hex_is, proofs.Values.some_said, proofs.Exactness.Fields.Exact}
 
 -- ## One digit
 

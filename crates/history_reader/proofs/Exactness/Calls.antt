@@ -1,8 +1,8 @@
 -- A call that is read, with its reply, is so spelled.
 use Rattle.std.proofs.Common.{◌≡◌, ℕ, zero, suc, ◌%◌, ◌≤◌, true, false, cond, List, [], ◌∷◌, Result, Ok, Err, refl, sym, ap, subst, ◌∙◌, arith, decimal, bytes_eq, codes, ◌++◌}
-use Rattle.history_reader.proofs.Common.{AsmKind, IfOk, IfOk-weaker, IsBytes, IsDatum, IsReply, Refusal, Reply, ReplyKind, Width, accepted, bind_if, block_props, both, both_if, byte, bytes_eq-Decides, choice_if, datum, encode_lower, equals, exactly, lookup, low, next, next_three, none, number, number_of, one, one_operand, props_names, props_text, ranged, refusal_of, refused, reply_fields, reply_of, scope, scope_text, size_of, sized, three_operands, two_operands, with_reply}
+use Rattle.history_reader.proofs.Common.{FaultKind, IfOk, IfOk-weaker, IsBytes, IsDatum, IsReply, Refusal, Reply, ReplyKind, Width, accepted, bind_if, block_props, both, both_if, byte, bytes_eq-Decides, choice_if, datum, encode_lower, equals, exactly, lookup, low, next, next_three, none, number, number_of, one, one_operand, props_names, props_text, ranged, refusal_of, refused, reply_fields, reply_of, scope, scope_text, size_of, sized, three_operands, two_operands, with_reply}
 use Rattle.itm_types.specs.declared.call.Reply.TheVariants as replies
-use Rattle.script_fields.specs.declared.fault.AsmKind.TheVariants as kinds
+use Rattle.script_fields.specs.declared.fault.FaultKind.TheVariants as kinds
 use Rattle.history_reader.specs.declared.reply.ReplyKind.TheVariants as answers
 use Rattle.history_reader.proofs.Values.{low_is}
 use Rattle.history_reader.proofs.Exactness.Fields.{Exact, exactly_is, lookup_if, or_operand_if, ranged_is}
@@ -79,7 +79,7 @@ reply_exact answer (f ∷ fs) =
 abbrev pub Replied : {A : Type 0} → (A → List (List ℕ)) → (A → Type 0) → ReplyKind → List (List ℕ) → A × Reply → Type 0
 Replied texts Is answer fs x = (fs ≡ texts x.0 ++ codes "=" ∷ reply_fields x.1) × (Is x.0 × IsReply answer x.1)
 
-reply_after : {A : Type 0} (ops : Result A AsmKind) (P : A → Type 0) (Q : A × Reply → Type 0) (answer : ReplyKind) (fs : List (List ℕ)) → IfOk ops P
+reply_after : {A : Type 0} (ops : Result A FaultKind) (P : A → Type 0) (Q : A × Reply → Type 0) (answer : ReplyKind) (fs : List (List ℕ)) → IfOk ops P
     → ((x : A × Reply) → P x.0 → fs ≡ codes "=" ∷ reply_fields x.1 → IsReply answer x.1 → Q x) → IfOk (with_reply ops answer fs) Q
 reply_after ops P Q answer fs h k =
     bind_if _ _ (equals fs) _ (equals_exact fs) (λ rest e.
@@ -89,20 +89,20 @@ reply_after ops P Q answer fs h k =
 pub no_operand_is : (answer : ReplyKind) (fs : List (List ℕ)) → IfOk (with_reply {A = Unit {0}} (Ok tt) answer fs) (Replied {A = Unit {0}} (λ u. []) (λ u. Unit {0}) answer fs)
 no_operand_is answer fs = reply_after {A = Unit {0}} (Ok tt) (λ u. Unit {0}) (Replied {A = Unit {0}} (λ u. []) (λ u. Unit {0}) answer fs) answer fs tt (λ x u e r. (e, (tt, r)))
 
-pub one_operand_is : {A : Type 0} (read : List ℕ → Result A AsmKind) (text : A → List ℕ) (Is : A → Type 0) → Exact read text Is
+pub one_operand_is : {A : Type 0} (read : List ℕ → Result A FaultKind) (text : A → List ℕ) (Is : A → Type 0) → Exact read text Is
     → (answer : ReplyKind) (fs : List (List ℕ)) → IfOk (one_operand read answer fs) (Replied (λ x. text x ∷ []) Is answer fs)
 unfolding next
 one_operand_is read text Is h answer [] = tt
 one_operand_is read text Is h answer (f ∷ fs) = reply_after (read f) _ _ answer fs (h f) (λ x o e r. (cc (o.0, e), (o.1, r)))
 
-pub two_operands_is : {A B : Type 0} (first : List ℕ → Result A AsmKind) (second : List ℕ → Result B AsmKind) (ta : A → List ℕ) (tb : B → List ℕ) (IsA : A → Type 0) (IsB : B → Type 0)
+pub two_operands_is : {A B : Type 0} (first : List ℕ → Result A FaultKind) (second : List ℕ → Result B FaultKind) (ta : A → List ℕ) (tb : B → List ℕ) (IsA : A → Type 0) (IsB : B → Type 0)
     → Exact first ta IsA → Exact second tb IsB → (answer : ReplyKind) (fs : List (List ℕ)) → IfOk (two_operands first second answer fs) (Replied (λ x. ta x.0 ∷ tb x.1 ∷ []) (λ x. IsA x.0 × IsB x.1) answer fs)
 unfolding next
 two_operands_is first second ta tb IsA IsB ha hb answer (f ∷ g ∷ fs) =
     reply_after (both (first f) (second g)) _ _ answer fs (both_if _ _ (first f) (second g) (ha f) (hb g)) (λ x o e r. (cc (o.0.0, o.1.0, e), ((o.0.1, o.1.1), r)))
 two_operands_is first second ta tb IsA IsB ha hb answer fs = tt
 
-pub three_operands_is : {A B C : Type 0} (first : List ℕ → Result A AsmKind) (second : List ℕ → Result B AsmKind) (third : List ℕ → Result C AsmKind) (ta : A → List ℕ) (tb : B → List ℕ) (tc : C → List ℕ)
+pub three_operands_is : {A B C : Type 0} (first : List ℕ → Result A FaultKind) (second : List ℕ → Result B FaultKind) (third : List ℕ → Result C FaultKind) (ta : A → List ℕ) (tb : B → List ℕ) (tc : C → List ℕ)
     (IsA : A → Type 0) (IsB : B → Type 0) (IsC : C → Type 0) → Exact first ta IsA → Exact second tb IsB → Exact third tc IsC → (answer : ReplyKind) (fs : List (List ℕ))
     → IfOk (three_operands first second third answer fs) (Replied (λ x. ta x.0 ∷ tb x.1.0 ∷ tc x.1.1 ∷ []) (λ x. IsA x.0 × (IsB x.1.0 × IsC x.1.1)) answer fs)
 unfolding next_three next

@@ -1,14 +1,14 @@
 -- What is read of a field is so spelled.
 use Rattle.std.proofs.Common.{◌≡◌, ℕ, ◌<◌, ◌≤◌, true, eqb, ltb, not, ◌&&◌, List, [], ◌∷◌, length, get_or, Option, Some, None, Result, Ok, Err, sym, subst, arith, inl, inr, decimal, bytes_eq}
-use Rattle.history_reader.proofs.Common.{AllByRecursion, AsmKind, IfOk, IfSome, IsWord, and_parts, bind_if, bytes_eq-Decides, cases_Bool, choice_if, decimal-digits_value, eqb-false, exactly, function, lookup, ltb-false, not-true, number, number_if, or_operand, own, ranged, told, within, within_if}
-use Rattle.script_fields.specs.declared.fault.AsmKind.TheVariants as kinds
+use Rattle.history_reader.proofs.Common.{AllByRecursion, FaultKind, IfOk, IfSome, IsWord, and_parts, bind_if, bytes_eq-Decides, cases_Bool, choice_if, decimal-digits_value, eqb-false, exactly, function, lookup, ltb-false, not-true, number, number_if, or_operand, own, ranged, told, within, within_if}
+use Rattle.script_fields.specs.declared.fault.FaultKind.TheVariants as kinds
 
 -- what is read is so spelled, and is so
-abbrev pub Exact : {A : Type 0} → (List ℕ → Result A AsmKind) → (A → List ℕ) → (A → Type 0) → Type 0
+abbrev pub Exact : {A : Type 0} → (List ℕ → Result A FaultKind) → (A → List ℕ) → (A → Type 0) → Type 0
 Exact {A} read text Is = (f : List ℕ) → IfOk (read f) (λ x. (f ≡ text x) × Is x)
 
 -- a reading of fields, as one of their line
-pub told_if : {A : Type 0} (P : A → Type 0) (r : Result A AsmKind) → IfOk r P → IfOk (told r) P
+pub told_if : {A : Type 0} (P : A → Type 0) (r : Result A FaultKind) → IfOk r P → IfOk (told r) P
 told_if P (Ok x) h = h
 told_if P (Err k) h = tt
 

@@ -1,6 +1,6 @@
 -- What is read of the fields of a line that is no call's is so spelled.
 use Rattle.std.proofs.Common.{◌≡◌, ℕ, ◌+◌, ◌≤◌, List, [], ◌∷◌, length, refl, sym, ap, ◌∙◌, decimal, Result}
-use Rattle.history_reader.proofs.Common.{AsmKind, Head, IfOk, IfOk-weaker, IsBytes, IsMemory, IsRan, IsUndone, IsWord, MAX_ARENA, MAX_DEPTH, MAX_RETRIES, arena_bytes, arena_of, arena_text, bind_if, block_props, both, both_if, depth, depth_of, encode_lower, final_of, function, head_of, kind, kind_names, kind_text, lookup, memory_bytes, memory_of, near_is, next, next_three, none, nth, number, one, outcome, outcome_name, outcome_names, outcome_of, props_text, ran_of, ranged, restart_bytes, restart_of, sized, thread, try_of, undone_of, ◌>>=◌}
+use Rattle.history_reader.proofs.Common.{FaultKind, Head, IfOk, IfOk-weaker, IsBytes, IsMemory, IsRan, IsUndone, IsWord, MAX_ARENA, MAX_DEPTH, MAX_RETRIES, arena_bytes, arena_of, arena_text, bind_if, block_props, both, both_if, depth, depth_of, encode_lower, final_of, function, head_of, kind, kind_names, kind_text, lookup, memory_bytes, memory_of, near_is, next, next_three, none, nth, number, one, outcome, outcome_name, outcome_names, outcome_of, props_text, ran_of, ranged, restart_bytes, restart_of, sized, thread, try_of, undone_of, ◌>>=◌}
 use Rattle.history_reader.proofs.Exactness.Calls.{next_exact, none_exact, one_exact, three_exact, props_is}
 use Rattle.history_reader.proofs.Exactness.Fields.{Exact, function_is, lookup_if, number_is, or_operand_if, ranged_is}
 use Rattle.history_reader.proofs.Exactness.Bytes.{arena_is, memory_is, restart_is, sized_is}
@@ -38,7 +38,7 @@ head_exact limit fs =
 -- ## One field
 
 -- what is read of one field alone
-alone_exact : {A : Type 0} (read : List ℕ → Result A AsmKind) (text : A → List ℕ) (Is : A → Type 0) → Exact read text Is → (fs : List (List ℕ)) → IfOk (one fs >>= read) (λ x. (fs ≡ text x ∷ []) × Is x)
+alone_exact : {A : Type 0} (read : List ℕ → Result A FaultKind) (text : A → List ℕ) (Is : A → Type 0) → Exact read text Is → (fs : List (List ℕ)) → IfOk (one fs >>= read) (λ x. (fs ≡ text x ∷ []) × Is x)
 unfolding one next none
 alone_exact read text Is h (f ∷ []) = IfOk-weaker (read f) (λ x. (f ≡ text x) × Is x) _ (λ x e. (ap (λ (g : List ℕ). g ∷ []) e.0, e.1)) (h f)
 alone_exact read text Is h fs = tt

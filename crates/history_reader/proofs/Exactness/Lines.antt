@@ -1,35 +1,17 @@
 -- A line of a history is its fields with single spaces between them, and the feed.
-use Rattle.std.proofs.Common.{◌≡◌, ℕ, ◌%◌, Bool, true, false, cond, eqb, List, [], ◌∷◌, ◌++◌, length, refl, sym, ap, ◌∙◌, append_assoc, decimal, codes}
-use Rattle.history_reader.proofs.Common.{Attempt, Call, CallRecord, Depth, Ran, Reply, Three, Version, arena_fields, arena_line, body_text, call_fields, call_line, commit_action_text, copy_text, depth_fields, encode_lower, fill_text, final_fields, first_lines, head_fields, head_line, joined, kind_text, last_line, memory_fields, name_of, operands_of, outcome_name, props_end, props_text, ran_fields, ran_line, reply_fields, reply_text, restart_fields, restart_line, size_of, try_text, undo_action_text, undone_fields, undone_line, verb_in, verb_text, version_lines}
+use Rattle.std.proofs.Common.{◌≡◌, ℕ, Bool, true, false, cond, eqb, List, [], ◌∷◌, ◌++◌, length, refl, sym, ap, ◌∙◌, append_assoc, codes, decimal}
+use Rattle.history_reader.proofs.Common.{Attempt, Call, CallRecord, Depth, Ran, Reply, Three, Version, arena_fields, arena_line, body_text, call_fields, call_line, commit_action_text, copy_text, depth_fields, encode_lower, fill_text, final_fields, first_lines, head_fields, head_line, joined, last_line, outcome_name, props_text, memory_fields, operands_of, props_end, ran_fields, ran_line, reply_fields, reply_text, restart_fields, restart_line, try_text, undo_action_text, undone_fields, undone_line, verb_in, verb_text, version_lines}
 use Rattle.itm_types.specs.declared.call.Call.TheVariants as calls
 use Rattle.itm_types.specs.declared.call.Reply.TheVariants as replies
-use Rattle.itm_entries.specs.declared.entry.Entry.TheVariants as points
-
--- ## Texts put together from the left, and from the right
-
-four : (a b c d : List ℕ) → a ++ b ++ c ++ d ≡ a ++ (b ++ (c ++ d))
-four a b c d = simp append_assoc
-
-five : (a b c d e : List ℕ) → a ++ b ++ c ++ d ++ e ≡ a ++ (b ++ (c ++ (d ++ e)))
-five a b c d e = simp append_assoc
-
-seven : (a b c d e f g : List ℕ) → a ++ b ++ c ++ d ++ e ++ f ++ g ≡ a ++ (b ++ (c ++ (d ++ (e ++ (f ++ g)))))
-seven a b c d e f g = simp append_assoc
-
-ending : (a b c d n : List ℕ) → a ++ b ++ c ++ d ++ n ≡ a ++ (b ++ (c ++ d)) ++ n
-ending a b c d n = simp append_assoc
-
-long_ending : (a b c d e f n : List ℕ) → a ++ b ++ c ++ d ++ e ++ f ++ n ≡ a ++ (b ++ (c ++ (d ++ (e ++ f)))) ++ n
-long_ending a b c d e f n = simp append_assoc
-
-two_ends : (a b c d e s f n : List ℕ) → (a ++ b ++ s ++ c ++ s ++ d ++ s ++ e) ++ (s ++ f ++ n) ≡ a ++ (b ++ (s ++ (c ++ (s ++ (d ++ (s ++ (e ++ (s ++ f)))))))) ++ n
-two_ends a b c d e s f n = simp append_assoc
 
 -- ## Lines
 
 -- the line of these fields
 abbrev pub line_of : List (List ℕ) → List ℕ
 line_of fs = joined fs ++ 10 ∷ []
+
+two_ends : (a b c d e s f n : List ℕ) → (a ++ b ++ s ++ c ++ s ++ d ++ s ++ e) ++ (s ++ f ++ n) ≡ a ++ (b ++ (s ++ (c ++ (s ++ (d ++ (s ++ (e ++ (s ++ f)))))))) ++ n
+two_ends a b c d e s f n = simp append_assoc
 
 pub head_joined : (a : Attempt) → head_line a ≡ line_of (head_fields a)
 unfolding head_line try_text props_end
@@ -45,7 +27,7 @@ arena_joined bytes = arena_chosen (eqb (length bytes) 0) (encode_lower bytes)
 
 pub memory_joined : (version : Version) (bytes : List ℕ) → first_lines version bytes ≡ version_lines version ++ line_of (memory_fields bytes)
 unfolding first_lines
-memory_joined version bytes = four (version_lines version) (codes "memory ") (encode_lower bytes) (codes "\n")
+memory_joined version bytes = simp append_assoc
 
 pub depth_joined : (depth : Depth) → version_lines (Three depth) ≡ codes "itm-history 3\n" ++ line_of (depth_fields depth.blocks)
 depth_joined depth = refl
@@ -60,32 +42,23 @@ restart_joined bytes = restart_chosen (eqb (length bytes) 0) (encode_lower bytes
 
 pub undone_joined : (r : Ran) → undone_line r ≡ line_of (undone_fields r)
 unfolding undone_line
-undone_joined r = ending (codes "undone ") (decimal r.action.fun) (codes " ") (decimal r.action.arg) (codes "\n")
+undone_joined r = simp append_assoc
 
 pub final_joined : (clock : ℕ) (bytes : List ℕ) → last_line clock bytes ≡ line_of (final_fields clock bytes)
 unfolding last_line
-final_joined clock bytes = ending (codes "final ") (decimal clock) (codes " ") (encode_lower bytes) (codes "\n")
+final_joined clock bytes = simp append_assoc
 
 pub ran_joined : (r : Ran) → ran_line r ≡ line_of (ran_fields r)
 unfolding ran_line
-ran_joined r = long_ending (codes "ran ") (kind_text r.kind) (codes " ") (decimal r.action.fun) (codes " ") (decimal r.action.arg) (codes "\n")
+ran_joined r = simp append_assoc
 
 -- ## Calls
 
 -- what is called and its operands
 body_joined : (c : Call) → body_text c ≡ joined (verb_text (verb_in c) ∷ operands_of c)
 unfolding body_text copy_text fill_text commit_action_text undo_action_text
-body_joined (calls.Read hint width at) = append_assoc (name_of (points.Read hint width)) (codes " ") (decimal at)
-body_joined (calls.Write hint at value) = five (name_of (points.Write hint value.width)) (codes " ") (decimal at) (codes " ") (encode_lower value.bytes.items)
-body_joined (calls.Log width at) = append_assoc (name_of (points.Log width)) (codes " ") (decimal at)
-body_joined (calls.LogBytes at size) = five (name_of points.LogBytes) (codes " ") (decimal at) (codes " ") (decimal size)
-body_joined (calls.Copy c) = seven (name_of (points.Copy c.moves c.pair)) (codes " ") (decimal c.to) (codes " ") (decimal c.from) (codes " ") (decimal c.size)
-body_joined (calls.Fill hint to byte size) = seven (name_of (points.Fill hint)) (codes " ") (decimal to) (codes " ") (decimal (byte % 256)) (codes " ") (decimal size)
-body_joined (calls.CommitAction action) = four (codes "_ITM_addUserCommitAction ") (decimal action.fun) (codes " _ITM_noTransactionId ") (decimal action.arg)
-body_joined (calls.UndoAction action) = four (codes "_ITM_addUserUndoAction ") (decimal action.fun) (codes " ") (decimal action.arg)
-body_joined (calls.Load width at) = append_assoc (codes "ld" ++ decimal (size_of width)) (codes " ") (decimal at)
-body_joined (calls.Save at value) = five (codes "st" ++ decimal (size_of value.width)) (codes " ") (decimal at) (codes " ") (encode_lower value.bytes.items)
-body_joined c = refl
+body_joined calls.Commit = refl
+body_joined c = first_of (simp append_assoc, search)
 
 reply_joined : (r : Reply) → codes " = " ++ reply_text r ≡ 32 ∷ joined (codes "=" ∷ reply_fields r)
 unfolding reply_text
@@ -96,6 +69,9 @@ reply_joined r = refl
 joined_after : (f : List ℕ) (fs : List (List ℕ)) (g : List ℕ) (gs : List (List ℕ)) → joined (f ∷ fs ++ g ∷ gs) ≡ joined (f ∷ fs) ++ 32 ∷ joined (g ∷ gs)
 joined_after f [] g gs = refl
 joined_after f (h ∷ fs) g gs = ap (λ (l : List ℕ). f ++ 32 ∷ l) (joined_after h fs g gs) ∙ sym (append_assoc f (32 ∷ joined (h ∷ fs)) (32 ∷ joined (g ∷ gs)))
+
+ending : (a b c d n : List ℕ) → a ++ b ++ c ++ d ++ n ≡ a ++ (b ++ (c ++ d)) ++ n
+ending a b c d n = simp append_assoc
 
 pub call_joined : (e : CallRecord) → call_line e ≡ line_of (call_fields e)
 unfolding call_line

@@ -1,7 +1,7 @@
 -- A line that is read adds just itself to the text that the state stands for.
 use Rattle.std.proofs.Common.{◌≡◌, ℕ, true, cond, List, [], ◌∷◌, ◌++◌, length, Result, Ok, Err, refl, sym, ap, subst, ◌∙◌, append-nil, codes, bytes_eq}
-use Rattle.history_reader.proofs.Common.{Again, All-nil, All-same, AreAgain, AsmKind, Attempt, Behind, Head, IfOk, IsAttempt, IsEntry, IsRan, IsTold, MayTell, One, Place, State, Three, Two, Version, again_or_later, arena_fields, arena_of, attempt_lines, between_line, bind_if, by_place, bytes_eq-Decides, call_or_later, choice_if, depth_fields, depth_line, depth_of, end_line, exactly, fields, fields_line, final_line, final_of, first_lines, flat_map, head_of, header_line, join_with_byte-slice_split, later_line, meaning, memory_fields, memory_limit, memory_line, memory_of, next, none, placed, restart_said, thread_limit, version_lines, ◌>>=◌}
-use Rattle.script_fields.specs.declared.fault.AsmKind.TheVariants as operands
+use Rattle.history_reader.proofs.Common.{Again, All-nil, All-same, AreAgain, FaultKind, Attempt, Behind, Head, IfOk, IsAttempt, IsEntry, IsRan, IsTold, MayTell, One, Place, State, Three, Two, Version, again_or_later, arena_fields, arena_of, attempt_lines, between_line, bind_if, by_place, bytes_eq-Decides, call_or_later, choice_if, depth_fields, depth_line, depth_of, end_line, exactly, fields, fields_line, final_line, final_of, first_lines, flat_map, head_of, header_line, join_with_byte-slice_split, later_line, meaning, memory_fields, memory_limit, memory_line, memory_of, next, none, placed, restart_said, thread_limit, version_lines, ◌>>=◌}
+use Rattle.script_fields.specs.declared.fault.FaultKind.TheVariants as operands
 use Rattle.history_reader.specs.declared.fault.ReadKind.TheVariants as kinds
 use Rattle.history_reader.specs.declared.state.Behind.TheVariants as behinds
 use Rattle.history_reader.specs.declared.state.Place.TheVariants as places
@@ -70,7 +70,7 @@ arena_step h s word fs k =
 
 -- ## By the first field
 
-by_word : (p : Place) (s : State) (name word : List ℕ) (fs : List (List ℕ)) (r other : Result State AsmKind) → IfOk r (Grows p s (name ∷ fs)) → IfOk other (Grows p s (word ∷ fs))
+by_word : (p : Place) (s : State) (name word : List ℕ) (fs : List (List ℕ)) (r other : Result State FaultKind) → IfOk r (Grows p s (name ∷ fs)) → IfOk other (Grows p s (word ∷ fs))
     → IfOk (cond (bytes_eq word name) r other) (Grows p s (word ∷ fs))
 by_word p s name word fs r other h k =
     choice_if _ (bytes_eq word name) r other (λ same. subst (λ (w : List ℕ). IfOk r (Grows p s (w ∷ fs))) (sym ((bytes_eq-Decides word name).0 same)) h) (λ differs. k)

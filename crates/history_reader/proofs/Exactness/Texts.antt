@@ -3,8 +3,7 @@ use Rattle.std.proofs.Common.{◌≡◌, ℕ, ◌+◌, eqb, List, [], ◌∷◌,
 use Rattle.history_reader.proofs.Common.{History, IfOk, IfOk-at_ok, IsHistory, Place, ReadKind, State, append-nil, bind_if, choice_if, end_of, eqb-true, history_text, in_line, initial, is_feed, join_with_byte, join_with_byte-slice_split, meaning, parts_say, read_of, slice_split, whole}
 use Rattle.history_reader.specs.declared.fault.ReadKind.TheVariants as kinds
 use Rattle.history_reader.specs.declared.state.Place.TheVariants as places
-use Rattle.history_reader.proofs.Exactness.States.{so_far, IsSoFar, at_end}
-use Rattle.history_reader.proofs.Exactness.Steps.{line_exact}
+use Rattle.history_reader.{proofs.Exactness.States.so_far, proofs.Exactness.States.IsSoFar, proofs.Exactness.States.at_end, proofs.Exactness.Steps.line_exact}
 
 -- a text is the spelling of this history, which a text can tell
 abbrev Spells : List ℕ → History → Type 0

@@ -1,13 +1,13 @@
 -- The lines of attempts are read as these attempts.
 use Rattle.std.proofs.Common.{◌≡◌, ℕ, zero, suc, ◌+◌, ◌-◌, List, [], ◌∷◌, ◌++◌, length, take, drop, Option, None, Some, Ok, refl, sym, ap, subst, ◌∙◌, arith, append_assoc, append-nil, lit<, length-append, zero-add, codes, decimal, flat_map}
-use Rattle.history_reader.proofs.Common.{Again, AllByRecursion, AreAgain, Attempt, Behind, CallRecord, Head, IsAgain, IsAttempt, IsEntry, IsInnerBegin, IsRan, IsTold, IsUndone, MayTell, One, Place, Ran, State, Three, Two, Version, again_lines, all_parts, arena_fields, arena_line, arena_text, attempt_lines, behind_call, call_fields, call_line, call_lines, fields_line, head_fields, head_line, is_five, joined, kind_text, length-take-le, meaning, outcome_name, props_text, ran_fields, ran_line, recursion_from_All, rest_of, restart_fields, restart_line, slice_get, slice_get_within, take-append-drop, undone_fields, undone_line, verb_in, verb_text}
+use Rattle.history_reader.proofs.Common.{Again, AllByRecursion, AreAgain, Attempt, Behind, CallRecord, Head, IsAgain, IsAttempt, IsEntry, IsInnerBegin, IsRan, IsTold, IsUndone, MayTell, One, Place, Ran, State, Three, Two, Version, again_lines, all_parts, arena_line, arena_text, attempt_lines, behind_call, call_fields, call_line, call_lines, fields_line, head_line, is_five, joined, kind_text, length-take-le, meaning, outcome_name, props_text, ran_fields, ran_line, recursion_from_All, rest_of, restart_fields, restart_line, slice_get, slice_get_within, take-append-drop, undone_fields, undone_line, verb_in, verb_text}
 use Rattle.history_reader.specs.declared.state.Behind.TheVariants as behinds
 use Rattle.history_reader.specs.declared.state.Place.TheVariants as places
 use Rattle.history_reader.proofs.BlocksAgain.{undone_is}
-use Rattle.history_reader.proofs.RoundTrips.LeadingLines.{Leads, leads_on, line_leads, stays}
+use Rattle.history_reader.proofs.RoundTrips.LeadingLines.{Leads, all_lead, fields_lead, leads_on}
 use Rattle.history_reader.proofs.RoundTrips.Spellings.{AreFields, call_are, ran_are, restart_are, undone_are, head_are, arena_are}
 use Rattle.history_reader.proofs.Exactness.Lines.{call_joined, ran_joined, restart_joined, undone_joined, head_joined, arena_joined}
-use Rattle.history_reader.proofs.RoundTrips.Lines.{says_again, head_in, head_says, arena_says, call_says, restart_says, undone_says, late, ran_says, end_says}
+use Rattle.history_reader.proofs.RoundTrips.Lines.{head_in, head_says, arena_says, call_says, restart_says, undone_says, late, ran_says, end_says}
 
 -- what stays of a state within an attempt: its version, its memory, the attempts that have ended, and the arena of this one
 pub record Frame : Type 0 where
@@ -25,13 +25,6 @@ within place f calls restarts ran =
 abbrev pub between : Version → List ℕ → List Attempt → State
 between version memory attempts = within places.Between (record { version = version; memory = memory; attempts = attempts; arena = [] }) [] [] []
 
--- the text of what one element says, and of what the others say
-one_more : {A : Type 0} (spell : A → List ℕ) (x : A) (xs : List A) (s t u : State) (rest : List ℕ) → Leads s t (spell x ++ (flat_map spell xs ++ rest)) (flat_map spell xs ++ rest)
-    → Leads t u (flat_map spell xs ++ rest) rest → Leads s u (flat_map spell (x ∷ xs) ++ rest) rest
-one_more spell x xs s t u rest first others =
-    subst (λ (text : List ℕ). Leads s u text rest) (sym (append_assoc (spell x) (flat_map spell xs) rest))
-    (leads_on s t u (spell x ++ (flat_map spell xs ++ rest)) (flat_map spell xs ++ rest) rest first others)
-
 -- a line within an attempt is told by its fields
 at_end : (o : Option Behind) (head : Head) (f : Frame) (es : List CallRecord) (agains : List Again) (rs : List Ran) (line : List ℕ)
     → meaning (within (late o head) f es agains rs) line ≡ fields_line (within (late o head) f es agains rs) line
@@ -46,23 +39,25 @@ abbrev behind_calls : Version → Behind → List CallRecord → Behind
 behind_calls version b [] = b
 behind_calls version b (e ∷ es) = behind_calls version (behind_call version e) es
 
+behind_last : (version : Version) (b : Behind) (es : List CallRecord) (e : CallRecord) → behind_calls version b (es ++ e ∷ []) ≡ behind_call version e
+behind_last version b [] e = refl
+behind_last version b (x ∷ es) e = behind_last version (behind_call version x) es e
+
 -- the lines of calls leave the calls
 calls_lead : (head : Head) (f : Frame) (b : Behind) (before es : List CallRecord) (agains : List Again) (rest : List ℕ) → AllByRecursion IsEntry es
     → Leads (within (places.InCalls head b) f before agains []) (within (places.InCalls head (behind_calls f.version b es)) f (before ++ es) agains []) (flat_map call_line es ++ rest) rest
-calls_lead head f b before [] agains rest h =
-    stays (within (places.InCalls head b) f before agains []) (within (places.InCalls head b) f (before ++ []) agains []) rest
-    (ap (λ (es : List CallRecord). within (places.InCalls head b) f es agains []) (sym (append-nil before)))
-calls_lead head f b before (e ∷ es) agains rest h =
-    let c = behind_call f.version e in
-    let s : State = within (places.InCalls head b) f before agains [] in
-    let t : State = within (places.InCalls head c) f (before ++ e ∷ []) agains [] in
-    let last : Place = places.InCalls head (behind_calls f.version c es) in
-    let says : meaning s (joined (call_fields e)) ≡ Ok t =
-    says_again s t (codes "call") (verb_text (verb_in e.call) ∷ rest_of e) (at_end (Some b) head f before agains [] (joined (call_fields e))) (call_are e h.0) (call_says s head b e h.0) in
-    let more : Leads t (within last f (before ++ e ∷ [] ++ es) agains []) (flat_map call_line es ++ rest) rest = calls_lead head f c (before ++ e ∷ []) es agains rest h.1 in
-    subst (λ (all : List CallRecord). Leads s (within last f all agains []) (flat_map call_line (e ∷ es) ++ rest) rest) (append_assoc before (e ∷ []) es)
-    (one_more call_line e es s t (within last f (before ++ e ∷ [] ++ es) agains []) rest
-    (line_leads s t (call_fields e) (call_line e) (flat_map call_line es ++ rest) (call_joined e) (call_are e h.0) says) more)
+calls_lead head f b before es agains rest h =
+    subst (λ (first : List CallRecord). Leads (within (places.InCalls head b) f first agains []) (left es) (flat_map call_line es ++ rest) rest) (append-nil before) (all_lead call_line IsEntry left each [] es rest h)
+  where
+    -- what these of them leave
+    left : List CallRecord → State
+    left made = within (places.InCalls head (behind_calls f.version b made)) f (before ++ made) agains []
+
+    each : (made : List CallRecord) (e : CallRecord) (more : List ℕ) → IsEntry e → Leads (left made) (left (made ++ e ∷ [])) (call_line e ++ more) more
+    each made e more i =
+        let c : Behind = behind_calls f.version b made in
+        subst (λ (t : State). Leads (left made) t (call_line e ++ more) more) (λ j. within (places.InCalls head (sym (behind_last f.version b made e) j)) f (append_assoc before made (e ∷ []) j) agains [])
+        (fields_lead (left made) _ (codes "call") (verb_text (verb_in e.call) ∷ rest_of e) (call_line e) more (call_joined e) (at_end (Some c) head f (before ++ made) agains [] (joined (call_fields e))) (call_are e i) (call_says (left made) head c e i))
 
 -- ### Blocks that ran again
 
@@ -74,20 +69,16 @@ ran_again kept arena undone = record { kept = kept; arena = arena; undone = undo
 undone_lead : (head : Head) (f : Frame) (es : List CallRecord) (agains : List Again) (kept : ℕ) (arena : List ℕ) (before us : List Ran) (rest : List ℕ) → AllByRecursion IsUndone us
     → Leads (within (places.InCalls head behinds.Restart) f es (agains ++ ran_again kept arena before ∷ []) []) (within (places.InCalls head behinds.Restart) f es (agains ++ ran_again kept arena (before ++ us) ∷ []) [])
     (flat_map undone_line us ++ rest) rest
-undone_lead head f es agains kept arena before [] rest h =
-    stays _ _ rest (ap (λ (us : List Ran). within (places.InCalls head behinds.Restart) f es (agains ++ ran_again kept arena us ∷ []) []) (sym (append-nil before)))
-undone_lead head f es agains kept arena before (r ∷ us) rest h =
-    let place : Place = places.InCalls head behinds.Restart in
-    let s : State = within place f es (agains ++ ran_again kept arena before ∷ []) [] in
-    let t : State = within place f es (agains ++ ran_again kept arena (before ++ r ∷ []) ∷ []) [] in
-    let one = undone_says s head r h.0 ∙ ap (λ (l : List Again). Ok (within place f es l [])) (undone_is agains (ran_again kept arena before) r) in
-    let says : meaning s (joined (undone_fields r)) ≡ Ok t =
-    says_again s t (codes "undone") (decimal r.action.fun ∷ decimal r.action.arg ∷ []) (at_end (Some behinds.Restart) head f es s.restarts [] (joined (undone_fields r))) (undone_are r h.0) one in
-    let more : Leads t (within place f es (agains ++ ran_again kept arena (before ++ r ∷ [] ++ us) ∷ []) []) (flat_map undone_line us ++ rest) rest =
-    undone_lead head f es agains kept arena (before ++ r ∷ []) us rest h.1 in
-    subst (λ (all : List Ran). Leads s (within place f es (agains ++ ran_again kept arena all ∷ []) []) (flat_map undone_line (r ∷ us) ++ rest) rest) (append_assoc before (r ∷ []) us)
-    (one_more undone_line r us s t (within place f es (agains ++ ran_again kept arena (before ++ r ∷ [] ++ us) ∷ []) []) rest
-    (line_leads s t (undone_fields r) (undone_line r) (flat_map undone_line us ++ rest) (undone_joined r) (undone_are r h.0) says) more)
+undone_lead head f es agains kept arena before us rest h = all_lead undone_line IsUndone left each before us rest h
+  where
+    left : List Ran → State
+    left made = within (places.InCalls head behinds.Restart) f es (agains ++ ran_again kept arena made ∷ []) []
+
+    each : (made : List Ran) (r : Ran) (more : List ℕ) → IsUndone r → Leads (left made) (left (made ++ r ∷ [])) (undone_line r ++ more) more
+    each made r more i =
+        fields_lead (left made) (left (made ++ r ∷ [])) (codes "undone") (decimal r.action.fun ∷ decimal r.action.arg ∷ []) (undone_line r) more (undone_joined r)
+        (at_end (Some behinds.Restart) head f es (left made).restarts [] (joined (undone_fields r))) (undone_are r i)
+        (undone_says (left made) head r i ∙ ap (λ (l : List Again). Ok (within (places.InCalls head behinds.Restart) f es l [])) (undone_is agains (ran_again kept arena made) r))
 
 -- the lines of a block that ran again, right behind its begin, leave it
 again_leads : (head : Head) (f : Frame) (es : List CallRecord) (agains : List Again) (a : Again) (rest : List ℕ) → length es ≡ a.kept → length a.arena ≡ length f.arena → IsTold a
@@ -98,10 +89,9 @@ again_leads head f es agains a rest kept size h =
     let t : State = within (places.InCalls head behinds.Restart) f es (agains ++ ran_again a.kept a.arena [] ∷ []) [] in
     let u : State = within (places.InCalls head behinds.Restart) f es (agains ++ a ∷ []) [] in
     let later : List ℕ = flat_map undone_line a.undone ++ rest in
-    let says : meaning s (joined (restart_fields a.arena)) ≡ Ok t =
-    says_again s t (codes "restart") (arena_text a.arena ∷ []) (at_end (Some behinds.Begin) head f es agains [] (joined (restart_fields a.arena))) (restart_are a.arena h.0)
+    let first : Leads s t (restart_line a.arena ++ later) later =
+    fields_lead s t (codes "restart") (arena_text a.arena ∷ []) (restart_line a.arena) later (restart_joined a.arena) (at_end (Some behinds.Begin) head f es agains [] (joined (restart_fields a.arena))) (restart_are a.arena h.0)
     (restart_says s head a.arena h.0 size ∙ ap (λ (k : ℕ). Ok (within (places.InCalls head behinds.Restart) f es (agains ++ ran_again k a.arena [] ∷ []) [])) kept) in
-    let first : Leads s t (restart_line a.arena ++ later) later = line_leads s t (restart_fields a.arena) (restart_line a.arena) later (restart_joined a.arena) (restart_are a.arena h.0) says in
     subst (λ (text : List ℕ). Leads s u text rest) (sym (append_assoc (restart_line a.arena) (flat_map undone_line a.undone) rest))
     (leads_on s t u (restart_line a.arena ++ later) later rest first (undone_lead head f es agains a.kept a.arena [] a.undone rest (recursion_from_All IsUndone a.undone h.1)))
 
@@ -125,10 +115,6 @@ got_past [] ys j = ap (slice_get ys) (zero-add j)
 got_past (x ∷ xs) ys j =
     let n : suc (length xs) + j ≡ suc (length xs + j) = omega arith in
     ap (slice_get (x ∷ xs ++ ys)) n ∙ got_past xs ys j
-
-behind_last : (version : Version) (b : Behind) (es : List CallRecord) (e : CallRecord) → behind_calls version b (es ++ e ∷ []) ≡ behind_call version e
-behind_last version b [] e = refl
-behind_last version b (x ∷ es) e = behind_last version (behind_call version x) es e
 
 begins_there : (version : Version) (e : CallRecord) (a : Again) (more : List Again) → MayTell version (a ∷ more) → IsInnerBegin (Some e) → behind_call version e ≡ behinds.Begin
 begins_there One e a more m i = absurd cc
@@ -206,30 +192,33 @@ end_field = ((lit< tt, refl), tt)
 end_leads : (o : Option Behind) (head : Head) (f : Frame) (calls : List CallRecord) (agains : List Again) (ran : List Ran) (rest : List ℕ)
     → Leads (within (late o head) f calls agains ran) (between f.version f.memory (f.attempts ++ told_by head f.arena calls agains ran ∷ [])) (codes "end\n" ++ rest) rest
 end_leads o head f calls agains ran rest =
-    let s : State = within (late o head) f calls agains ran in
-    let t : State = between f.version f.memory (f.attempts ++ told_by head f.arena calls agains ran ∷ []) in
-    line_leads s t (codes "end" ∷ []) (codes "end\n") rest refl end_field
-    (says_again s t (codes "end") [] (at_end o head f calls agains ran (codes "end")) end_field (end_says o s head))
+    fields_lead (within (late o head) f calls agains ran) (between f.version f.memory (f.attempts ++ told_by head f.arena calls agains ran ∷ [])) (codes "end") [] (codes "end\n") rest refl
+    (at_end o head f calls agains ran (codes "end")) end_field (end_says o (within (late o head) f calls agains ran) head)
+
+-- behind these actions
+abbrev late_by : Option Behind → List Ran → Option Behind
+late_by o [] = o
+late_by o (r ∷ rs) = None
+
+late_none : (o : Option Behind) (rs : List Ran) (r : Ran) → late_by o (rs ++ r ∷ []) ≡ None
+late_none o [] r = refl
+late_none o (x ∷ rs) r = refl
 
 -- the lines of actions that ran, and the last line, leave the attempt
-ran_lead : (o : Option Behind) (head : Head) (f : Frame) (calls : List CallRecord) (agains : List Again) (before rs : List Ran) (rest : List ℕ) → AllByRecursion IsRan rs
-    → Leads (within (late o head) f calls agains before) (between f.version f.memory (f.attempts ++ told_by head f.arena calls agains (before ++ rs) ∷ [])) (flat_map ran_line rs ++ (codes "end\n" ++ rest)) rest
-ran_lead o head f calls agains before [] rest h =
-    subst (λ (all : List Ran). Leads (within (late o head) f calls agains before) (between f.version f.memory (f.attempts ++ told_by head f.arena calls agains all ∷ [])) (codes "end\n" ++ rest) rest)
-    (sym (append-nil before)) (end_leads o head f calls agains before rest)
-ran_lead o head f calls agains before (r ∷ rs) rest h =
-    let s : State = within (late o head) f calls agains before in
-    let t : State = within (places.InRan head) f calls agains (before ++ r ∷ []) in
-    let after : List ℕ = flat_map ran_line rs ++ (codes "end\n" ++ rest) in
-    let whole : List Ran → State = λ all. between f.version f.memory (f.attempts ++ told_by head f.arena calls agains all ∷ []) in
-    let says : meaning s (joined (ran_fields r)) ≡ Ok t =
-    says_again s t (codes "ran") (kind_text r.kind ∷ decimal r.action.fun ∷ decimal r.action.arg ∷ []) (at_end o head f calls agains before (joined (ran_fields r))) (ran_are r h.0)
-    (ran_says o s head r h.0) in
-    let first : Leads s t (ran_line r ++ after) after = line_leads s t (ran_fields r) (ran_line r) after (ran_joined r) (ran_are r h.0) says in
-    let more : Leads t (whole (before ++ r ∷ [] ++ rs)) after rest = ran_lead None head f calls agains (before ++ r ∷ []) rs rest h.1 in
-    subst (λ (all : List Ran). Leads s (whole all) (flat_map ran_line (r ∷ rs) ++ (codes "end\n" ++ rest)) rest) (append_assoc before (r ∷ []) rs)
-    (subst (λ (text : List ℕ). Leads s (whole (before ++ r ∷ [] ++ rs)) text rest) (sym (append_assoc (ran_line r) (flat_map ran_line rs) (codes "end\n" ++ rest)))
-    (leads_on s t (whole (before ++ r ∷ [] ++ rs)) (ran_line r ++ after) after rest first more))
+ran_lead : (o : Option Behind) (head : Head) (f : Frame) (calls : List CallRecord) (agains : List Again) (rs : List Ran) (rest : List ℕ) → AllByRecursion IsRan rs
+    → Leads (within (late o head) f calls agains []) (between f.version f.memory (f.attempts ++ told_by head f.arena calls agains rs ∷ [])) (flat_map ran_line rs ++ (codes "end\n" ++ rest)) rest
+ran_lead o head f calls agains rs rest h =
+    leads_on (left []) (left rs) (between f.version f.memory (f.attempts ++ told_by head f.arena calls agains rs ∷ [])) (flat_map ran_line rs ++ (codes "end\n" ++ rest)) (codes "end\n" ++ rest) rest
+    (all_lead ran_line IsRan left each [] rs (codes "end\n" ++ rest) h) (end_leads (late_by o rs) head f calls agains rs rest)
+  where
+    left : List Ran → State
+    left made = within (late (late_by o made) head) f calls agains made
+
+    each : (made : List Ran) (r : Ran) (more : List ℕ) → IsRan r → Leads (left made) (left (made ++ r ∷ [])) (ran_line r ++ more) more
+    each made r more i =
+        fields_lead (left made) (left (made ++ r ∷ [])) (codes "ran") (kind_text r.kind ∷ decimal r.action.fun ∷ decimal r.action.arg ∷ []) (ran_line r) more (ran_joined r)
+        (at_end (late_by o made) head f calls agains made (joined (ran_fields r))) (ran_are r i)
+        (ran_says (late_by o made) (left made) head r i ∙ ap (λ (q : Option Behind). Ok (within (late q head) f calls agains (made ++ r ∷ []))) (sym (late_none o made r)))
 
 -- ### Whole attempts
 
@@ -237,15 +226,11 @@ ran_lead o head f calls agains before (r ∷ rs) rest h =
 told_again : (version : Version) (a : Attempt) → IsAttempt version a → told_by (head_in a) a.arena a.calls.list a.restarts a.ran ≡ a
 told_again version a h = λ i. record a { began = sym h.began i; calls = record { list = a.calls.list; room = sym h.room i } }
 
--- parts in a row, each with all that stands behind it
-parts_apart : (a b c d e rest : List ℕ) → a ++ b ++ c ++ d ++ e ++ rest ≡ a ++ (b ++ (c ++ (d ++ (e ++ rest))))
-parts_apart a b c d e rest = simp append_assoc
-
 -- the lines of an attempt in a row
 attempt_parts : (a : Attempt) (rest : List ℕ)
     → attempt_lines a ++ rest ≡ head_line a ++ (arena_line a.arena ++ (call_lines 0 a.calls.list a.restarts ++ (flat_map ran_line a.ran ++ (codes "end\n" ++ rest))))
 unfolding attempt_lines
-attempt_parts a rest = parts_apart (head_line a) (arena_line a.arena) (call_lines 0 a.calls.list a.restarts) (flat_map ran_line a.ran) (codes "end\n") rest
+attempt_parts a rest = simp append_assoc
 
 -- the lines of an attempt leave the attempt
 attempt_leads : (version : Version) (memory : List ℕ) (attempts : List Attempt) (a : Attempt) (rest : List ℕ) → IsAttempt version a
@@ -260,18 +245,13 @@ attempt_leads version memory attempts a rest h =
     let w : State = between version memory (attempts ++ told_by head a.arena a.calls.list a.restarts a.ran ∷ []) in
     let last : List ℕ = flat_map ran_line a.ran ++ (codes "end\n" ++ rest) in
     let later : List ℕ = call_lines 0 a.calls.list a.restarts ++ last in
-    let heads : AreFields (head_fields a) = head_are version a h in
-    let arenas : AreFields (arena_fields a.arena) = arena_are a.arena h.arena.0 in
     let one : Leads s t (head_line a ++ (arena_line a.arena ++ later)) (arena_line a.arena ++ later) =
-    line_leads s t (head_fields a) (head_line a) (arena_line a.arena ++ later) (head_joined a) heads
-    (says_again s t (codes "attempt") (decimal a.thread ∷ decimal a.nth ∷ decimal a.at ∷ outcome_name a.outcome ∷ props_text a.props ∷ []) refl heads
-    (head_says s a h)) in
+    fields_lead s t (codes "attempt") (decimal a.thread ∷ decimal a.nth ∷ decimal a.at ∷ outcome_name a.outcome ∷ props_text a.props ∷ []) (head_line a) (arena_line a.arena ++ later) (head_joined a) refl (head_are version a h) (head_says s a h) in
     let two : Leads t u (arena_line a.arena ++ later) later =
-    line_leads t u (arena_fields a.arena) (arena_line a.arena) later (arena_joined a.arena) arenas
-    (says_again t u (codes "arena") (arena_text a.arena ∷ []) refl arenas (arena_says t head a.arena h.arena.0 h.arena.1)) in
+    fields_lead t u (codes "arena") (arena_text a.arena ∷ []) (arena_line a.arena) later (arena_joined a.arena) refl (arena_are a.arena h.arena.0) (arena_says t head a.arena h.arena.0 h.arena.1) in
     let body = body_leads head f behinds.Call [] a.calls.list [] a.restarts last (recursion_from_All IsEntry a.calls.list h.calls) (recursion_from_All IsTold a.restarts h.restarts) h.may h.again in
     let v : State = within (places.InCalls head body.0) f a.calls.list a.restarts [] in
-    let four : Leads v w last rest = ran_lead (Some body.0) head f a.calls.list a.restarts [] a.ran rest (recursion_from_All IsRan a.ran h.ran) in
+    let four : Leads v w last rest = ran_lead (Some body.0) head f a.calls.list a.restarts a.ran rest (recursion_from_All IsRan a.ran h.ran) in
     let all : Leads s w (head_line a ++ (arena_line a.arena ++ later)) rest =
     leads_on s t w (head_line a ++ (arena_line a.arena ++ later)) (arena_line a.arena ++ later) rest one
     (leads_on t u w (arena_line a.arena ++ later) later rest two (leads_on u v w later last rest body.1 four)) in
@@ -281,8 +261,4 @@ attempt_leads version memory attempts a rest h =
 -- the lines of attempts leave the attempts
 pub attempts_lead : (version : Version) (memory : List ℕ) (before more : List Attempt) (rest : List ℕ) → AllByRecursion (IsAttempt version) more
     → Leads (between version memory before) (between version memory (before ++ more)) (flat_map attempt_lines more ++ rest) rest
-attempts_lead version memory before [] rest h = stays (between version memory before) (between version memory (before ++ [])) rest (ap (between version memory) (sym (append-nil before)))
-attempts_lead version memory before (a ∷ more) rest h =
-    subst (λ (all : List Attempt). Leads (between version memory before) (between version memory all) (flat_map attempt_lines (a ∷ more) ++ rest) rest) (append_assoc before (a ∷ []) more)
-    (one_more attempt_lines a more (between version memory before) (between version memory (before ++ a ∷ [])) (between version memory (before ++ a ∷ [] ++ more)) rest
-    (attempt_leads version memory before a (flat_map attempt_lines more ++ rest) h.0) (attempts_lead version memory (before ++ a ∷ []) more rest h.1))
+attempts_lead version memory before more rest h = all_lead attempt_lines (IsAttempt version) (between version memory) (attempt_leads version memory) before more rest h

@@ -1,6 +1,6 @@
 -- A call that is spelled, with its reply, is read again.
 use Rattle.std.proofs.Common.{◌≡◌, ℕ, ◌%◌, ◌≤◌, Bool, cond, List, [], ◌∷◌, ◌++◌, Option, Result, Ok, refl, sym, ap, ◌∙◌, arith, decimal, codes}
-use Rattle.history_reader.proofs.Common.{AsmKind, Call, CallRecord, IsCall, IsEntry, IsReply, Refusal, Reply, ReplyKind, Verb, Width, abort_operand, accepted, answer_to, begin_operand, byte, call_of, commit_action, control_call, copy_operands, encode_lower, equals, fill_operands, function_again, mode_again, mode_operand, next, next_three, no_operand, no_transaction_again, none, number_again, number_of, one, operands_of, or_operand, place_datum, place_operand, place_size, point_call, refusal_of, refused, reply_fields, reply_of, rest_of, scope_again, size_of, undo_action, verb_call, verb_in, verb_text, ◌>>=◌}
+use Rattle.history_reader.proofs.Common.{FaultKind, Call, CallRecord, IsCall, IsEntry, IsReply, Refusal, Reply, ReplyKind, Verb, Width, abort_operand, accepted, answer_to, begin_operand, byte, call_of, commit_action, control_call, copy_operands, encode_lower, equals, fill_operands, function_again, mode_again, mode_operand, next, next_three, no_operand, no_transaction_again, none, number_again, number_of, one, operands_of, or_operand, place_datum, place_operand, place_size, point_call, refusal_of, refused, reply_fields, reply_of, rest_of, scope_again, size_of, undo_action, verb_call, verb_in, verb_text, ◌>>=◌}
 use Rattle.itm_types.specs.declared.call.Call.TheVariants as calls
 use Rattle.itm_types.specs.declared.call.Reply.TheVariants as replies
 use Rattle.history_reader.specs.declared.reply.ReplyKind.TheVariants as answers
@@ -13,7 +13,7 @@ refused_again : (answer : ReplyKind) (r : Refusal) → reply_of answer (codes "r
 unfolding reply_of refused next none one
 refused_again answer r =
     let small = refusal_number r in
-    ap (λ (q : Result ℕ AsmKind). q >>= λ n. Ok (replies.Refused (refusal_of n))) (ranged_again 1 8 (number_of r) small.0 small.1 (omega arith))
+    ap (λ (q : Result ℕ FaultKind). q >>= λ n. Ok (replies.Refused (refusal_of n))) (ranged_again 1 8 (number_of r) small.0 small.1 (omega arith))
     ∙ ap (λ (x : Refusal). Ok (replies.Refused x)) (refusal_again r)
 
 -- bytes are read again
@@ -22,14 +22,14 @@ value_again : (width : Width) (bytes : List ℕ) → IsReply (answers.Bytes widt
 unfolding reply_of accepted next none
 value_again width bytes h =
     ap (λ (t : Bool). cond t (refused []) (accepted (answers.Bytes width) (encode_lower bytes) [])) (no_digits bytes (codes "refused") refl)
-    ∙ ap (λ (q : Result (List ℕ) AsmKind). q >>= λ bs. Ok (replies.Bytes (record { items = bs }))) (sized_again (size_of width) bytes h.0 (some_bytes width) h.1)
+    ∙ ap (λ (q : Result (List ℕ) FaultKind). q >>= λ bs. Ok (replies.Bytes (record { items = bs }))) (sized_again (size_of width) bytes h.0 (some_bytes width) h.1)
 
 -- a reply of the kind that the call has, or a refusal, is read again
 reply_again : (answer : ReplyKind) (r : Reply) → IsReply answer r → reply_of answer (reply_fields r) ≡ Ok r
 unfolding reply_of accepted next none one
 reply_again answer (replies.Refused r) h = refused_again answer r
 reply_again answers.Done replies.Done h = refl
-reply_again answers.Code (replies.Code n) h = ap (λ (q : Result ℕ AsmKind). q >>= λ c. Ok (replies.Code c)) (ranged_again 0 255 n (omega arith) h (omega (arith, h)))
+reply_again answers.Code (replies.Code n) h = ap (λ (q : Result ℕ FaultKind). q >>= λ c. Ok (replies.Code c)) (ranged_again 0 255 n (omega arith) h (omega (arith, h)))
 reply_again (answers.Bytes width) (replies.Bytes value) h = value_again width value.items h
 reply_again answer r h = absurd h
 

@@ -1,10 +1,10 @@
 -- What is spelled in a field is read of it again.
 use Rattle.std.proofs.Common.{◌≡◌, ℕ, ◌*◌, ◌/◌, ◌%◌, ◌^◌, ◌<◌, ◌≤◌, ◌+◌, Bool, true, false, cond, eqb, leb, List, [], ◌∷◌, ◌++◌, length, Option, Some, Result, Ok, Err, refl, sym, ap, subst, ◌∙◌, arith, lit<, inl, inr, decimal, bytes_eq, codes}
-use Rattle.history_reader.proofs.Common.{ActionKind, AsmKind, Datum, Depth, IsArenaWidth, IsBytes, IsDatum, IsMemory, MAX_ARENA, MAX_DEPTH, Outcome, Point, Props, Refusal, Verb, Width, access_names, are_words, arena_bytes, arena_text, block_props, bytes_eq-Decides, bytes_if, cases_Bool, datum, datum_of, decimal_digit, decode_of-encode_lower, decoded_is, depth, depth_from, encode_lower, entry_of-exact, eq-eqb, even_digits, is_lower_digit, kind, kind_text, le-leb, length-encode_with, lookup, lower_digits, memory_bytes, name_of, ne_eqb, near_is, number_again, number_of, or_point, outcome, outcome_name, point_verb, props_text, ranged, refusal_of, restart_bytes, same_depth, size_of, sized, verb_of, verb_text, within, within_again, ◌>>=◌}
+use Rattle.history_reader.proofs.Common.{ActionKind, FaultKind, Datum, Depth, IsArenaWidth, IsBytes, IsDatum, IsMemory, MAX_ARENA, MAX_DEPTH, Outcome, Point, Props, Refusal, Verb, Width, access_names, are_words, arena_bytes, arena_text, block_props, bytes_eq-Decides, bytes_if, cases_Bool, datum, datum_of, decimal_digit, decode_of-encode_lower, decoded_is, depth, depth_from, encode_lower, entry_of-exact, eq-eqb, even_digits, is_lower_digit, kind, kind_text, le-leb, length-encode_with, lookup, lower_digits, memory_bytes, name_of, ne_eqb, near_is, number_again, number_of, or_point, outcome, outcome_name, point_verb, props_text, ranged, refusal_of, restart_bytes, same_depth, size_of, sized, verb_of, verb_text, within, within_again, ◌>>=◌}
 use Rattle.itm_types.specs.declared.access.Width.TheVariants.{U1, U2, U4, U8, F}
 use Rattle.itm_types.specs.declared.call.ActionKind.TheVariants as when
 use Rattle.itm_types.specs.declared.call.Refusal.TheVariants as refusals
-use Rattle.script_fields.specs.declared.fault.AsmKind.TheVariants as kinds
+use Rattle.script_fields.specs.declared.fault.FaultKind.TheVariants as kinds
 use Rattle.tx_attempts.specs.declared.attempt.Outcome.TheVariants as outcomes
 use Rattle.history_reader.specs.declared.verb.Verb.TheVariants as verbs
 use Rattle.history_reader.proofs.Values.{low_is, same_datum}
@@ -14,7 +14,7 @@ use Rattle.history_reader.proofs.Values.{low_is, same_datum}
 -- a number between two is read as it was
 pub ranged_again : (low high n : ℕ) → low ≤ n → n ≤ high → n < 2 ^ 64 → ranged low high (decimal n) ≡ Ok n
 unfolding ranged
-ranged_again low high n l h fits = ap (λ (r : Result ℕ AsmKind). r >>= within low high) (number_again n fits) ∙ within_again low high n l h
+ranged_again low high n l h fits = ap (λ (r : Result ℕ FaultKind). r >>= within low high) (number_again n fits) ∙ within_again low high n l h
 
 -- ## Bytes
 
@@ -68,7 +68,7 @@ arena_again (b ∷ rest) h few =
 pub restart_again : (n : ℕ) (bytes : List ℕ) → IsBytes bytes → length bytes ≡ n → restart_bytes n (arena_text bytes) ≡ Ok bytes
 unfolding restart_bytes
 restart_again n [] h e =
-    let none : Bool → Result (List ℕ) AsmKind = λ t. cond t (Ok []) (Err kinds.Range) in
+    let none : Bool → Result (List ℕ) FaultKind = λ t. cond t (Ok []) (Err kinds.Range) in
     ap none (eq-eqb n 0 (sym e))
 restart_again n (b ∷ rest) h e =
     let some : eqb (length (b ∷ rest)) 0 ≡ false = ne_eqb _ 0 (λ f. omega arith) in

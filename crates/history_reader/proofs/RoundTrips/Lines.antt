@@ -1,6 +1,6 @@
 -- What a line's fields were spelled for is what they say where they stand.
 use Rattle.std.proofs.Common.{◌≡◌, ℕ, ◌+◌, ◌≤◌, List, [], ◌∷◌, ◌++◌, length, Option, None, Some, Result, Ok, refl, sym, ap, ◌∙◌, arith, decimal, codes}
-use Rattle.history_reader.proofs.Common.{ActionKind, AsmKind, Attempt, Behind, CallRecord, Depth, Head, IsAttempt, IsBytes, IsEntry, IsMemory, IsRan, IsUndone, IsWord, MAX_ARENA, MAX_RETRIES, Place, Ran, State, Three, again_or_later, arena_of, arena_text, behind_call, between_line, call_or_later, depth_line, depth_of, encode_lower, end_line, fields_line, final_line, final_of, function_again, head_of, joined, kind, kind_text, later_line, meaning, memory_limit, memory_line, memory_of, next, next_three, none, nth, number_again, one, outcome, outcome_name, placed, props_text, ran_of, rest_of, restart_of, thread, thread_limit, told, undone_of, verb_in, verb_text, with_undone, ◌>>=◌}
+use Rattle.history_reader.proofs.Common.{ActionKind, FaultKind, Attempt, Behind, CallRecord, Depth, Head, IsAttempt, IsBytes, IsEntry, IsMemory, IsRan, IsUndone, IsWord, MAX_ARENA, MAX_RETRIES, Place, Ran, State, Three, again_or_later, arena_of, arena_text, behind_call, between_line, call_or_later, depth_line, depth_of, encode_lower, end_line, fields_line, final_line, final_of, function_again, head_of, joined, kind, kind_text, later_line, meaning, memory_limit, memory_line, memory_of, next, next_three, none, nth, number_again, one, outcome, outcome_name, placed, props_text, ran_of, rest_of, restart_of, thread, thread_limit, told, undone_of, verb_in, verb_text, with_undone, ◌>>=◌}
 use Rattle.history_reader.specs.declared.state.Behind.TheVariants as behinds
 use Rattle.history_reader.specs.declared.state.Place.TheVariants as places
 use Rattle.history_reader.specs.Lines as lines
@@ -13,17 +13,17 @@ pub says_again : (s t : State) (word : List ℕ) (fs : List (List ℕ)) → mean
     → placed s.place s word fs ≡ Ok t → meaning s (joined (word ∷ fs)) ≡ Ok t
 unfolding next
 says_again s t word fs m h e =
-    m ∙ ap (λ (l : List (List ℕ)). told (next l >>= λ x. placed s.place s x.0 x.1)) (fields_again word fs h) ∙ ap (λ (r : Result State AsmKind). told r) e
+    m ∙ ap (λ (l : List (List ℕ)). told (next l >>= λ x. placed s.place s x.0 x.1)) (fields_again word fs h) ∙ ap (λ (r : Result State FaultKind). told r) e
 
 -- how many blocks may be open
 pub depth_says : (s : State) (d : Depth) → placed places.AtDepth s (codes "depth") (decimal d.blocks ∷ []) ≡ Ok (record s { place = places.AtMemory; version = Three d })
 unfolding placed depth_line depth_of next none one
-depth_says s d = ap (λ (r : Result Depth AsmKind). r >>= λ z. Ok (record s { place = places.AtMemory; version = Three z })) (depth_again d)
+depth_says s d = ap (λ (r : Result Depth FaultKind). r >>= λ z. Ok (record s { place = places.AtMemory; version = Three z })) (depth_again d)
 
 -- the memory before the run
 pub memory_says : (s : State) (bytes : List ℕ) → IsMemory (memory_limit s.version) bytes → placed places.AtMemory s (codes "memory") (encode_lower bytes ∷ []) ≡ Ok (record s { place = places.Between; memory = bytes })
 unfolding placed memory_line memory_of next none one
-memory_says s bytes h = ap (λ (r : Result (List ℕ) AsmKind). r >>= λ b. Ok (record s { place = places.Between; memory = b })) (memory_again (memory_limit s.version) bytes h)
+memory_says s bytes h = ap (λ (r : Result (List ℕ) FaultKind). r >>= λ b. Ok (record s { place = places.Between; memory = b })) (memory_again (memory_limit s.version) bytes h)
 
 -- the clock and the memory after the run
 pub final_says : (s : State) (clock : ℕ) (bytes : List ℕ) → IsWord clock → IsBytes bytes → length bytes ≡ length s.memory → 1 ≤ length s.memory
@@ -48,13 +48,13 @@ head_says s a h =
 pub arena_says : (s : State) (head : Head) (bytes : List ℕ) → IsBytes bytes → length bytes ≤ MAX_ARENA
     → placed (places.AtArena head) s (codes "arena") (arena_text bytes ∷ []) ≡ Ok (record s { place = places.InCalls head behinds.Call; arena = bytes })
 unfolding placed lines.arena_line arena_of next none one
-arena_says s head bytes h few = ap (λ (r : Result (List ℕ) AsmKind). r >>= λ b. Ok (record s { place = places.InCalls head behinds.Call; arena = b })) (arena_again bytes h few)
+arena_says s head bytes h few = ap (λ (r : Result (List ℕ) FaultKind). r >>= λ b. Ok (record s { place = places.InCalls head behinds.Call; arena = b })) (arena_again bytes h few)
 
 -- a call
 pub call_says : (s : State) (head : Head) (b : Behind) (e : CallRecord) → IsEntry e
     → placed (places.InCalls head b) s (codes "call") (verb_text (verb_in e.call) ∷ rest_of e) ≡ Ok (record s { place = places.InCalls head (behind_call s.version e); calls = s.calls ++ e ∷ [] })
 unfolding placed call_or_later lines.call_line
-call_says s head b e h = ap (λ (r : Result CallRecord AsmKind). r >>= λ x. Ok (record s { place = places.InCalls head (behind_call s.version x); calls = s.calls ++ x ∷ [] })) (call_again e h)
+call_says s head b e h = ap (λ (r : Result CallRecord FaultKind). r >>= λ x. Ok (record s { place = places.InCalls head (behind_call s.version x); calls = s.calls ++ x ∷ [] })) (call_again e h)
 
 -- that a block ran again, right behind its begin
 pub restart_says : (s : State) (head : Head) (bytes : List ℕ) → IsBytes bytes → length bytes ≡ length s.arena
@@ -62,7 +62,7 @@ pub restart_says : (s : State) (head : Head) (bytes : List ℕ) → IsBytes byte
     ≡ Ok (record s { place = places.InCalls head behinds.Restart; restarts = s.restarts ++ record { kept = length s.calls; arena = bytes; undone = [] } ∷ [] })
 unfolding placed call_or_later again_or_later lines.restart_line restart_of next none one
 restart_says s head bytes h e =
-    ap (λ (r : Result (List ℕ) AsmKind). r >>= λ b. Ok (record s { place = places.InCalls head behinds.Restart; restarts = s.restarts ++ record { kept = length s.calls; arena = b; undone = [] } ∷ [] }))
+    ap (λ (r : Result (List ℕ) FaultKind). r >>= λ b. Ok (record s { place = places.InCalls head behinds.Restart; restarts = s.restarts ++ record { kept = length s.calls; arena = b; undone = [] } ∷ [] }))
     (restart_again (length s.arena) bytes h e)
 
 -- an action that had run in it before

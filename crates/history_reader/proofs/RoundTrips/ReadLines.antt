@@ -1,8 +1,7 @@
 -- Lines that are read one after the other.
 use Rattle.std.proofs.Common.{◌≡◌, ℕ, ◌+◌, ◌<◌, Bool, true, false, cond, eqb, List, [], ◌∷◌, ◌++◌, length, Result, Ok, Err, refl, sym, ap, subst, ◌∙◌, arith, length-append, append_assoc, IfErr}
 use Rattle.history_reader.proofs.Common.{Adds, Fails, Gives, History, Place, ReadKind, RunsOut, State, Steps, end_of, in_line, initial, is_feed, lines_leave, meaning, parts_nonempty, parts_say, slice_split, taken, whole}
-use Rattle.history_reader.specs.Reading.{◌>>=◌}
-use Rattle.history_reader.specs.declared.fault.ReadFault.{ReadFault}
+use Rattle.history_reader.{specs.Reading.◌>>=◌, specs.declared.fault.ReadFault.ReadFault}
 use Rattle.history_reader.specs.declared.fault.ReadKind.TheVariants as kinds
 use Rattle.history_reader.specs.declared.state.Place.TheVariants as places
 

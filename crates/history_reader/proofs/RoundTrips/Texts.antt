@@ -1,12 +1,12 @@
 -- The text of a history that a text can tell is read as that history.
 use Rattle.std.proofs.Common.{◌≡◌, ℕ, ◌≤◌, List, [], ◌∷◌, ◌++◌, length, Ok, refl, sym, ap, subst, ◌∙◌, arith, append_assoc, append-nil, lit<, codes, decimal, flat_map}
-use Rattle.history_reader.proofs.Common.{History, IsAttempt, IsField, IsHistory, IsMemory, One, State, Three, Two, Version, attempt_lines, depth_fields, encode_lower, end_of, final_fields, first_lines, history_text, initial, is_feed, joined, last_line, meaning, memory_fields, memory_limit, parts_say, read_of, recursion_from_All, slice_split, version_lines}
+use Rattle.history_reader.proofs.Common.{History, IsAttempt, IsField, IsHistory, IsMemory, One, State, Three, Two, Version, attempt_lines, depth_fields, encode_lower, end_of, first_lines, history_text, initial, is_feed, joined, last_line, meaning, memory_fields, memory_limit, parts_say, read_of, recursion_from_All, slice_split, version_lines}
 use Rattle.history_reader.specs.declared.state.Place.TheVariants as places
 use Rattle.history_reader.proofs.RoundTrips.AttemptTexts.{attempts_lead, between}
-use Rattle.history_reader.proofs.RoundTrips.LeadingLines.{Leads, leads_on, line_leads}
+use Rattle.history_reader.proofs.RoundTrips.LeadingLines.{Leads, fields_lead, leads_on, line_leads}
 use Rattle.history_reader.proofs.RoundTrips.Spellings.{AreFields, depth_are, memory_are, final_are}
 use Rattle.history_reader.proofs.Exactness.Lines.{depth_joined, memory_joined, final_joined}
-use Rattle.history_reader.proofs.RoundTrips.Lines.{says_again, depth_says, memory_says, final_says}
+use Rattle.history_reader.proofs.RoundTrips.Lines.{depth_says, memory_says, final_says}
 
 -- the lines of the version were read
 abbrev begun : Version → State
@@ -31,12 +31,10 @@ version_leads One rest = line_leads initial (begun One) (codes "itm-history" ∷
 version_leads Two rest = line_leads initial (begun Two) (codes "itm-history" ∷ codes "2" ∷ []) (codes "itm-history 2\n") rest refl (header_field (codes "2") (lit< tt, refl)) refl
 version_leads (Three depth) rest =
     let line : List ℕ = joined (depth_fields depth.blocks) ++ 10 ∷ [] in
-    let fields : AreFields (depth_fields depth.blocks) = depth_are depth.blocks depth.few in
     let one : Leads initial asked (codes "itm-history 3\n" ++ (line ++ rest)) (line ++ rest) =
     line_leads initial asked (codes "itm-history" ∷ codes "3" ∷ []) (codes "itm-history 3\n") (line ++ rest) refl (header_field (codes "3") (lit< tt, refl)) refl in
     let two : Leads asked (begun (Three depth)) (line ++ rest) rest =
-    line_leads asked (begun (Three depth)) (depth_fields depth.blocks) line rest refl fields
-    (says_again asked (begun (Three depth)) (codes "depth") (decimal depth.blocks ∷ []) refl fields (depth_says asked depth)) in
+    fields_lead asked (begun (Three depth)) (codes "depth") (decimal depth.blocks ∷ []) line rest refl refl (depth_are depth.blocks depth.few) (depth_says asked depth) in
     subst (λ (text : List ℕ). Leads initial (begun (Three depth)) text rest)
     (sym (ap (λ (l : List ℕ). l ++ rest) (depth_joined depth) ∙ append_assoc (codes "itm-history 3\n") line rest))
     (leads_on initial asked (begun (Three depth)) (codes "itm-history 3\n" ++ (line ++ rest)) (line ++ rest) rest one two)
@@ -53,10 +51,8 @@ first_parts version bytes rest = ap (λ (l : List ℕ). l ++ rest) (memory_joine
 first_lead : (version : Version) (bytes rest : List ℕ) → IsMemory (memory_limit version) bytes → Leads initial (between version bytes []) (first_lines version bytes ++ rest) rest
 unfolding meaning
 first_lead version bytes rest h =
-    let fields : AreFields (memory_fields bytes) = memory_are (memory_limit version) bytes h in
     let two : Leads (begun version) (between version bytes []) (memory_line bytes ++ rest) rest =
-    line_leads (begun version) (between version bytes []) (memory_fields bytes) (memory_line bytes) rest refl fields
-    (says_again (begun version) (between version bytes []) (codes "memory") (encode_lower bytes ∷ []) refl fields (memory_says (begun version) bytes h)) in
+    fields_lead (begun version) (between version bytes []) (codes "memory") (encode_lower bytes ∷ []) (memory_line bytes) rest refl refl (memory_are (memory_limit version) bytes h) (memory_says (begun version) bytes h) in
     subst (λ (text : List ℕ). Leads initial (between version bytes []) text rest) (sym (first_parts version bytes rest))
     (leads_on initial (begun version) (between version bytes []) (version_lines version ++ (memory_line bytes ++ rest)) (memory_line bytes ++ rest) rest (version_leads version (memory_line bytes ++ rest)) two)
 
@@ -67,10 +63,8 @@ last_leads h rest is =
     let s : State = between h.version h.memory h.attempts in
     let many : 8 ≤ length h.memory = is.memory.1 in
     let same : length h.bytes ≡ length h.memory = is.bytes.1 in
-    let fields : AreFields (final_fields h.clock h.bytes) = final_are h.clock h.bytes is.clock is.bytes.0 (omega arith) in
-    line_leads s (over h) (final_fields h.clock h.bytes) (last_line h.clock h.bytes) rest (final_joined h.clock h.bytes) fields
-    (says_again s (over h) (codes "final") (decimal h.clock ∷ encode_lower h.bytes ∷ []) refl fields
-    (final_says s h.clock h.bytes is.clock is.bytes.0 same (omega arith)))
+    fields_lead s (over h) (codes "final") (decimal h.clock ∷ encode_lower h.bytes ∷ []) (last_line h.clock h.bytes) rest (final_joined h.clock h.bytes) refl (final_are h.clock h.bytes is.clock is.bytes.0 (omega arith))
+    (final_says s h.clock h.bytes is.clock is.bytes.0 same (omega arith))
 
 -- the parts of a text in a row
 history_parts : (h : History) → history_text h ≡ first_lines h.version h.memory ++ (flat_map attempt_lines h.attempts ++ (last_line h.clock h.bytes ++ []))

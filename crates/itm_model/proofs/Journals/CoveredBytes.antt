@@ -1,6 +1,6 @@
 -- Laws of bytes that are put back: what stands at them before makes no difference.
-use Rattle.std.proofs.Common.{◌≡◌, ◌⊎◌, inl, inr, ℕ, ◌+◌, ◌<◌, ◌≤◌, List, [], ◌∷◌, ◌++◌, length, drop, get_or, refl, ap, sym, subst, ◌∙◌, arith}
-use Rattle.itm_model.proofs.Common.{AreCovered, AreWithin, IsCovered, Old, cases_lt, drop-append-le, put_back, same_number_lists, slice, with_slice}
+use Rattle.std.proofs.Common.{◌≡◌, ◌⊎◌, inl, inr, ℕ, ◌+◌, ◌≤◌, List, [], ◌∷◌, ◌++◌, length, drop, get_or, refl, ap, sym, subst, ◌∙◌, arith}
+use Rattle.itm_model.proofs.Common.{AreCovered, AreWithin, IsCovered, Old, drop-append-le, put_back, same_number_lists, slice, with_slice}
 use Rattle.itm_model.proofs.Journals.Rollbacks.{length-with_slice, length-put_back, put_back-append}
 use Rattle.itm_model.proofs.Journals.LaidBytes.{byte_outside, byte_within, slice_same}
 
@@ -8,44 +8,15 @@ use Rattle.itm_model.proofs.Journals.LaidBytes.{byte_outside, byte_within, slice
 abbrev AlikeAt : List Old → List ℕ → List ℕ → ℕ → Type 0
 AlikeAt os m m' i = (get_or m i 0 ≡ get_or m' i 0) ⊎ IsCovered os i
 
-alike_rest : (o : Old) (os : List Old) (m m' : List ℕ) (i : ℕ) → (o.place ≤ i → i < o.place + length o.bytes.items → ⊥) → AlikeAt (o ∷ os) m m' i → AlikeAt os m m' i
-alike_rest o os m m' i out (inl same) = inl same
-alike_rest o os m m' i out (inr (inl here)) = absurd (out here.0 here.1)
-alike_rest o os m m' i out (inr (inr rest)) = inr rest
-
-put_outside : (o : Old) (b b' : List ℕ) (i : ℕ) → o.place + length o.bytes.items ≤ length b → length b' ≡ length b → (i < o.place) ⊎ (o.place + length o.bytes.items ≤ i) → get_or b i 0 ≡ get_or b' i 0
-    → get_or (with_slice b o.place o.bytes.items) i 0 ≡ get_or (with_slice b' o.place o.bytes.items) i 0
-put_outside o b b' i h e out same = byte_outside b o.place o.bytes.items i h out ∙ (same ∙ sym (byte_outside b' o.place o.bytes.items i (omega (arith, h, e)) out))
-
-put_within : (o : Old) (b b' : List ℕ) (i : ℕ) → o.place + length o.bytes.items ≤ length b → length b' ≡ length b → o.place ≤ i → i < o.place + length o.bytes.items
-    → get_or (with_slice b o.place o.bytes.items) i 0 ≡ get_or (with_slice b' o.place o.bytes.items) i 0
-put_within o b b' i h e l k = byte_within b o.place o.bytes.items i h l k ∙ sym (byte_within b' o.place o.bytes.items i (omega (arith, h, e)) l k)
-
 put_back_byte : (os : List Old) (m m' : List ℕ) (i : ℕ) → AreWithin (length m) os → length m' ≡ length m → AlikeAt os m m' i → get_or (put_back os m) i 0 ≡ get_or (put_back os m') i 0
 put_back_byte [] m m' i w e (inl same) = same
 put_back_byte [] m m' i w e (inr none) = absurd none
 put_back_byte (o ∷ os) m m' i w e alike =
     let w' : AreWithin (length m') os = subst (λ (n : ℕ). AreWithin n os) (sym e) w.1 in
-    let long : length (put_back os m) ≡ length m = length-put_back os m w.1 in
-    let long' : length (put_back os m') ≡ length m' = length-put_back os m' w' in
-    let h : o.place + length o.bytes.items ≤ length (put_back os m) = omega (arith, w.0, long) in
-    let k : length (put_back os m') ≡ length (put_back os m) = long' ∙ (e ∙ sym long) in
-    elim (cases_lt i o.place) [
-      | inl below ↦ put_outside o (put_back os m) (put_back os m') i h k (inl below) (put_back_byte os m m' i w.1 e (alike_rest o os m m' i (λ l r. omega (arith, below, l)) alike))
-      | inr from ↦ elim (cases_lt i (o.place + length o.bytes.items)) [
-        | inl within ↦ put_within o (put_back os m) (put_back os m') i h k from within
-        | inr past ↦ put_outside o (put_back os m) (put_back os m') i h k (inr past) (put_back_byte os m m' i w.1 e (alike_rest o os m m' i (λ l r. omega (arith, past, r)) alike))
-      ]
-    ]
+    grind (arith, byte_outside, byte_within, length-put_back os m w.1, length-put_back os m' w', put_back_byte os m m' i w.1 e)
 
 alike_written : (os : List Old) (m : List ℕ) (p : ℕ) (new : List ℕ) (i : ℕ) → p + length new ≤ length m → AreCovered os p (length new) → AlikeAt os (with_slice m p new) m i
-alike_written os m p new i h c = elim (cases_lt i p) [
-  | inl below ↦ inl (byte_outside m p new i h (inl below))
-  | inr from ↦ elim (cases_lt i (p + length new)) [
-    | inl within ↦ inr (c i from within)
-    | inr past ↦ inl (byte_outside m p new i h (inr past))
-  ]
-]
+alike_written os m p new i h c = grind (arith, byte_outside, c i)
 
 -- bytes are written where each is put back
 pub covered_write : (os : List Old) (m : List ℕ) (p : ℕ) (new : List ℕ) → AreWithin (length m) os → p + length new ≤ length m → AreCovered os p (length new) → put_back os (with_slice m p new) ≡ put_back os m

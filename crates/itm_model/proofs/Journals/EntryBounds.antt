@@ -1,8 +1,9 @@
 -- A bound on a journal's length: in each open block no piece has two entries.
-use Rattle.std.proofs.Common.{◌≡◌, inl, inr, ℕ, zero, suc, ◌+◌, ◌-◌, ◌*◌, ◌<◌, ◌≤◌, Bool, true, false, cond, ltb, List, [], ◌∷◌, ◌++◌, length, take, drop, refl, ap, sym, subst, ◌∙◌, arith, length-append, length-drop}
-use Rattle.itm_model.proofs.Common.{Adds, AreAmong, AreFirst, AreLinked, AreOnce, AreUnder, Mark, Old, cases_eq, drop-append-le, le-ltb, length-take-le, lt-ltb, newest_in, piece_of, take-append-le, top_of}
-use Rattle.std.proofs.Math.Nat.{mul-suc}
-use Rattle.itm_model.proofs.Journals.NewestEntries.{newest_of_it, newest_of_another, among_take, among_drop, linked_take, linked_drop, first_append}
+use Rattle.std.proofs.Common.{◌≡◌, ℕ, zero, suc, ◌+◌, ◌-◌, ◌*◌, ◌<◌, ◌≤◌, cond, ltb, List, [], ◌∷◌, ◌++◌, length, take, drop, refl, ap, sym, subst, ◌∙◌, arith, length-append, length-drop}
+use Rattle.std.{proofs.lemmas.Bool.Decides.nat_tests, proofs.Math.Nat.mul-suc}
+use Rattle.itm_model.proofs.Common.{Adds, AreAmong, AreFirst, AreLinked, AreOnce, AreUnder, Mark, Old, drop-append-le, length-take-le, newest_in, piece_of, take-append-le, top_of}
+use Rattle.itm_model.proofs.Journals.NewestEntries.{newest_of_it, newest_of_another, linked_take, linked_drop}
+use Rattle.itm_types.proofs.Elements.{all_append, all_drop, all_take}
 
 -- ## Blocks
 
@@ -16,9 +17,9 @@ top_under n h (x ∷ ms) u = u.0
 
 -- first entries come
 once_append : (n h : ℕ) (j more : List Old) (ms : List Mark) → n ≤ length j → AreUnder n h ms → AreOnce j ms → AreFirst (top_of ms) more → AreOnce (j ++ more) ms
-once_append n h j more [] l u o f = first_append 0 j more o f
+once_append n h j more [] l u o f = all_append _ j more o f
 once_append n h j more (x ∷ ms) l u o f = (
-  subst (AreFirst x.at) (sym (drop-append-le x.at j more (omega (arith, l, u.0)))) (first_append x.at (drop x.at j) more o.0 f),
+  subst (AreFirst x.at) (sym (drop-append-le x.at j more (omega (arith, l, u.0)))) (all_append _ (drop x.at j) more o.0 f),
   subst (λ (t : List Old). AreOnce t ms) (sym (take-append-le x.at j more (omega (arith, l, u.0)))) o.1,
 )
 
@@ -35,13 +36,9 @@ abbrev above : ℕ → List Old → ℕ → ℕ
 above top os zero = 0
 above top os (suc n) = above top os n + above_at top os n
 
-one_at_most : (b : Bool) → cond b 1 0 ≤ 1
-one_at_most true = omega arith
-one_at_most false = omega arith
-
 above_le : (top : ℕ) (os : List Old) (n : ℕ) → above top os n ≤ n
 above_le top os zero = omega arith
-above_le top os (suc n) = omega (arith, above_le top os n, one_at_most (ltb top (newest_in os n)))
+above_le top os (suc n) = grind (arith, nat_tests, above_le top os n)
 
 at_another : (top : ℕ) (os : List Old) (o : Old) (p : ℕ) → (piece_of o ≡ p → ⊥) → above_at top (os ++ o ∷ []) p ≡ above_at top os p
 at_another top os o p ne = ap (λ (t : ℕ). cond (ltb top t) 1 0) (newest_of_another os o p ne)
@@ -51,17 +48,12 @@ above_others top os o zero h = refl
 above_others top os o (suc n) h = omega (arith, above_others top os o n (omega (arith, h)), at_another top os o n (λ e. omega (arith, h, e)))
 
 at_it : (top : ℕ) (os : List Old) (o : Old) (p : ℕ) → piece_of o ≡ p → top ≤ length os → newest_in os (piece_of o) ≤ top → above_at top (os ++ o ∷ []) p ≡ suc (above_at top os p)
-at_it top os o p e h l =
-    let new : ltb top (newest_in (os ++ o ∷ []) p) ≡ true = lt-ltb top (newest_in (os ++ o ∷ []) p) (omega (arith, h, newest_of_it os o p e)) in
-    let old : ltb top (newest_in os p) ≡ false = le-ltb top (newest_in os p) (omega (arith, l, ap (newest_in os) e)) in
-    ap (λ (t : Bool). cond t 1 0) new ∙ sym (ap (λ (t : Bool). suc (cond t 1 0)) old)
+at_it top os o p e h l = grind (arith, nat_tests, newest_of_it os o p e)
 
 above_push : (top : ℕ) (os : List Old) (o : Old) (n : ℕ) → top ≤ length os → newest_in os (piece_of o) ≤ top → piece_of o < n → above top (os ++ o ∷ []) n ≡ suc (above top os n)
 above_push top os o zero h l b = absurd (omega (arith, b))
-above_push top os o (suc n) h l b = elim (cases_eq (piece_of o) n) [
-  | inl e ↦ omega (arith, above_others top os o n (omega (arith, e)), at_it top os o n e h l)
-  | inr ne ↦ omega (arith, above_push top os o n h l (omega (arith, b, ne)), at_another top os o n ne)
-]
+above_push top os o (suc n) h l b =
+    grind (arith, above_others top os o n, at_it top os o n, above_push top os o n h l, at_another top os o n)
 
 -- ## The bound
 
@@ -77,8 +69,8 @@ few_entries n top h j (x ∷ ms) e u w a o =
     let l : x.at ≤ length j = omega (arith, u.0, e) in
     let front = take x.at j in
     let at : length front ≡ x.at = length-take-le x.at j l in
-    let here : length (drop x.at j) + above x.at front n ≤ n = first_few x.at n front (drop x.at j) (omega (arith, at)) (linked_drop x.at [] j w) o.0 (among_drop n x.at j a) in
-    let rest : length front ≤ n * (length ms + 1) = few_entries n x.at x.logs front ms at u.2 (linked_take x.at [] j w) (among_take n x.at j a) o.1 in
+    let here : length (drop x.at j) + above x.at front n ≤ n = first_few x.at n front (drop x.at j) (omega (arith, at)) (linked_drop x.at [] j w) o.0 (all_drop _ x.at j a) in
+    let rest : length front ≤ n * (length ms + 1) = few_entries n x.at x.logs front ms at u.2 (linked_take x.at [] j w) (all_take _ x.at j a) o.1 in
     let whole : length (drop x.at j) ≡ length j - x.at = length-drop x.at j in
     let more : suc (length ms) + 1 ≡ suc (length ms + 1) = omega arith in
     let product : n * (suc (length ms) + 1) ≡ n * (length ms + 1) + n = ap (λ (k : ℕ). n * k) more ∙ mul-suc n (length ms + 1) in

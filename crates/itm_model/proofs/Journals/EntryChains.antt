@@ -1,9 +1,10 @@
 -- Laws of entries that come one after the other, each unless its piece has one since the journal had so many.
 use Rattle.std.proofs.Common.{◌≡◌, ℕ, ◌<◌, ◌≤◌, Bool, true, false, ltb, List, [], ◌∷◌, length, take, drop, refl, ap, sym, subst, ◌∙◌, arith, length-append}
 use Rattle.itm_model.proofs.Common.{Adds, AreCovered, AreLinked, ArePieces, IsPiece, Old, Restores, drop-append-le, handed_on, joined, length-take-le, ltb-false, ltb-true, newest_in, piece_of, put_back, take-append-drop, with_slice}
-use Rattle.itm_model.proofs.Journals.Rollbacks.{length-put_back, put_back-append, AreWithin-drop}
+use Rattle.itm_model.proofs.Journals.Rollbacks.{length-put_back, put_back-append}
+use Rattle.itm_types.proofs.Elements.{all_append, all_drop, all_take}
 use Rattle.itm_model.proofs.Journals.CoveredBytes.{covered_write}
-use Rattle.itm_model.proofs.Journals.NewestEntries.{pieces_push, pieces_within, pieces_take, pieces_drop, linked_push, newest_covers, covered_drop, adds_none, adds_more}
+use Rattle.itm_model.proofs.Journals.NewestEntries.{pieces_within, linked_push, newest_covers, covered_drop, adds_none, adds_more}
 
 -- the entry as it comes after these
 abbrev after : List Old → Old → Old
@@ -16,13 +17,11 @@ piece_after n so o w = record { start = w.start; inside = w.inside; whole = w.wh
 
 joined_pieces : (n : ℕ) (so : List Old) (o : Old) (b : Bool) → ArePieces n so → IsPiece n o → ArePieces n (joined so o b)
 joined_pieces n so o true w h = w
-joined_pieces n so o false w h = pieces_push n so (after so o) w (piece_after n so o h)
+joined_pieces n so o false w h = all_append (IsPiece n) so (after so o ∷ []) w (piece_after n so o h, tt)
 
 pub handed_pieces : (n top : ℕ) (so os : List Old) → ArePieces n so → ArePieces n os → ArePieces n (handed_on top so os)
 handed_pieces n top so [] w h = w
-handed_pieces n top so (o ∷ os) w h =
-    let b = ltb top (newest_in so (piece_of o)) in
-    handed_pieces n top (joined so o b) os (joined_pieces n so o b w h.0) h.1
+handed_pieces n top so (o ∷ os) w h = handed_pieces n top (joined so o _) os (joined_pieces n so o _ w h.0) h.1
 
 joined_linked : (so : List Old) (o : Old) (b : Bool) → AreLinked [] so → AreLinked [] (joined so o b)
 joined_linked so o true w = w
@@ -30,9 +29,7 @@ joined_linked so o false w = linked_push [] so (after so o) w refl
 
 pub handed_linked : (top : ℕ) (so os : List Old) → AreLinked [] so → AreLinked [] (handed_on top so os)
 handed_linked top so [] w = w
-handed_linked top so (o ∷ os) w =
-    let b = ltb top (newest_in so (piece_of o)) in
-    handed_linked top (joined so o b) os (joined_linked so o b w)
+handed_linked top so (o ∷ os) w = handed_linked top (joined so o _) os (joined_linked so o _ w)
 
 joined_adds : (top : ℕ) (so : List Old) (o : Old) (b : Bool) → ltb top (newest_in so (piece_of o)) ≡ b → Adds top so (joined so o b)
 joined_adds top so o true e = adds_none top so
@@ -54,7 +51,7 @@ piece_covered n top k so o w h t l i from below =
 joined_restores : (top k : ℕ) (so : List Old) (o : Old) (m : List ℕ) (b : Bool) → ltb top (newest_in so (piece_of o)) ≡ b → ArePieces (length m) so → IsPiece (length m) o → top ≤ length so → k ≤ top
     → put_back (drop k (joined so o b)) m ≡ put_back (drop k so) (with_slice m o.place o.bytes.items)
 joined_restores top k so o m true e w h t l =
-    sym (covered_write (drop k so) m o.place o.bytes.items (AreWithin-drop (length m) k so (pieces_within (length m) so w)) (omega (arith, h.inside, h.whole))
+    sym (covered_write (drop k so) m o.place o.bytes.items (all_drop _ k so (pieces_within (length m) so w)) (omega (arith, h.inside, h.whole))
     (piece_covered (length m) top k so o w h (ltb-true top (newest_in so (piece_of o)) e) l))
 joined_restores top k so o m false e w h t l =
     ap (λ x. put_back x m) (drop-append-le k so (after so o ∷ []) (omega (arith, t, l))) ∙ put_back-append (drop k so) (after so o ∷ []) m
@@ -80,4 +77,4 @@ handed_same top at j m w t l k h =
     ap (λ x. put_back (drop k x) m) (sym (take-append-drop at j))
     ∙ (ap (λ x. put_back x m) (drop-append-le k (take at j) (drop at j) (omega (arith, h, t, length-take-le at j l)))
     ∙ put_back-append (drop k (take at j)) (drop at j) m) in
-    handed_restores top k (take at j) (drop at j) m (pieces_take (length m) at j w) (pieces_drop (length m) at j w) (omega (arith, t, length-take-le at j l)) h ∙ sym own
+    handed_restores top k (take at j) (drop at j) m (all_take _ at j w) (all_drop _ at j w) (omega (arith, t, length-take-le at j l)) h ∙ sym own

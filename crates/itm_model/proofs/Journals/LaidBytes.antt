@@ -1,6 +1,7 @@
 -- Laws of laying what stands at the places of a journal over what stood there before.
-use Rattle.std.proofs.Common.{◌≡◌, ◌⊎◌, inl, inr, ℕ, zero, suc, ◌+◌, ◌-◌, ◌<◌, ◌≤◌, List, [], ◌∷◌, ◌++◌, length, get_or, take, drop, ap, sym, subst, ◌∙◌, arith, add-one, drop-cons}
-use Rattle.itm_model.proofs.Common.{AreWithin, Old, cases_lt, common_steps, get_or-drop, get_or-take, put_back, same_number_lists, slice, take-add, take-append-drop, with_slice}
+use Rattle.std.proofs.Common.{◌≡◌, ◌⊎◌, inl, inr, ℕ, ◌+◌, ◌-◌, ◌<◌, ◌≤◌, List, [], ◌∷◌, ◌++◌, length, get_or, take, drop, ap, sym, ◌∙◌, arith, add-one, drop-cons}
+use Rattle.itm_types.proofs.Elements.{all_at}
+use Rattle.itm_model.proofs.Common.{AreWithin, Old, common_steps, get_or-drop, get_or-take, put_back, same_number_lists, slice, take-add, take-append-drop, with_slice}
 use Rattle.itm_model.proofs.Journals.Rollbacks.{length-with_slice, length-slice, length-put_back}
 
 -- a byte outside a slice that is replaced
@@ -32,29 +33,10 @@ length-laid_one o m b h e = let n = length-slice m o.place (length o.bytes.items
 abbrev Known : List ℕ → List ℕ → List ℕ → ℕ → Type 0
 Known old m b i = (get_or old i 0 ≡ get_or b i 0) ⊎ (get_or b i 0 ≡ get_or m i 0)
 
-known_outside : (o : Old) (old m b : List ℕ) (i : ℕ) → o.place + length o.bytes.items ≤ length m → length old ≡ length m → length b ≡ length m → (i < o.place) ⊎ (o.place + length o.bytes.items ≤ i)
-    → Known (with_slice old o.place o.bytes.items) m b i → Known old m (laid_one o m b) i
-known_outside o old m b i h e f out known =
-    let n : length (slice m o.place (length o.bytes.items)) ≡ length o.bytes.items = length-slice m o.place (length o.bytes.items) h in
-    let out' : (i < o.place) ⊎ (o.place + length (slice m o.place (length o.bytes.items)) ≤ i) = subst (λ (t : ℕ). (i < o.place) ⊎ (o.place + t ≤ i)) (sym n) out in
-    let same : get_or (laid_one o m b) i 0 ≡ get_or b i 0 = byte_outside b o.place (slice m o.place (length o.bytes.items)) i (omega (arith, n)) out' in
-    let was : get_or (with_slice old o.place o.bytes.items) i 0 ≡ get_or old i 0 = byte_outside old o.place o.bytes.items i (omega (arith, h, e)) out in
-    elim known [ inl k ↦ inl (sym was ∙ k ∙ sym same) | inr k ↦ inr (same ∙ k) ]
-
-known_within : (o : Old) (old m b : List ℕ) (i : ℕ) → o.place + length o.bytes.items ≤ length m → length b ≡ length m → o.place ≤ i → i < o.place + length o.bytes.items → Known old m (laid_one o m b) i
-known_within o old m b i h f l k =
-    let n : length (slice m o.place (length o.bytes.items)) ≡ length o.bytes.items = length-slice m o.place (length o.bytes.items) h in
-    inr (byte_within b o.place (slice m o.place (length o.bytes.items)) i (omega (arith, n)) l (omega (arith, n)) ∙ byte_of_slice m o.place (length o.bytes.items) i l k)
-
 known_next : (o : Old) (old m b : List ℕ) (i : ℕ) → o.place + length o.bytes.items ≤ length m → length old ≡ length m → length b ≡ length m
     → Known (with_slice old o.place o.bytes.items) m b i → Known old m (laid_one o m b) i
-known_next o old m b i h e f known = elim (cases_lt i o.place) [
-  | inl before ↦ known_outside o old m b i h e f (inl before) known
-  | inr from ↦ elim (cases_lt i (o.place + length o.bytes.items)) [
-    | inl below ↦ known_within o old m b i h f from below
-    | inr after ↦ known_outside o old m b i h e f (inr after) known
-  ]
-]
+known_next o old m b i h e f known =
+    grind (arith, byte_outside, byte_within, byte_of_slice, length-slice m o.place (length o.bytes.items) h)
 
 laid_byte : (os : List Old) (m b : List ℕ) (i : ℕ) → AreWithin (length m) os → length b ≡ length m → Known (put_back os m) m b i → get_or (laid_over os m b) i 0 ≡ get_or m i 0
 laid_byte [] m b i w e (inl k) = sym k
@@ -73,11 +55,6 @@ laid_again os m b w e =
 
 -- ## One entry after the other
 
-pub within_at : (n : ℕ) (os : List Old) (i : ℕ) (d : Old) → AreWithin n os → i < length os → (get_or os i d).place + length (get_or os i d).bytes.items ≤ n
-within_at n [] i d w h = absurd (omega (arith, h))
-within_at n (o ∷ os) zero d w h = w.0
-within_at n (o ∷ os) (suc i) d w h = within_at n os i d w.1 (omega (arith, h))
-
 pub laid_next : (os : List Old) (i : ℕ) (d : Old) (m b : List ℕ) → i < length os → laid_over (drop i os) m b ≡ laid_over (drop (i + 1) os) m (laid_one (get_or os i d) m b)
 laid_next os i d m b h = rw (add-one) (ap (λ (t : List Old). laid_over t m b) (drop-cons os i d h))
 
@@ -94,5 +71,5 @@ pub laid_nothing : (os : List Old) (i : ℕ) (d : Old) (m b : List ℕ) → i < 
     → laid_over (drop i os) m b ≡ m → laid_over (drop (i + 1) os) m b ≡ m
 laid_nothing os i d m b h w e same rest =
     let o = get_or os i d in
-    let within = within_at (length m) os i d w h in
+    let within = all_at (λ o. o.place + length o.bytes.items ≤ length m) os i d w h in
     ap (laid_over (drop (i + 1) os) m) (sym (slice_same b m o.place (length o.bytes.items) (omega (arith, within, e)) same)) ∙ (sym (laid_next os i d m b h) ∙ rest)

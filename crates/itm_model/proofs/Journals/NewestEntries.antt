@@ -1,17 +1,14 @@
 -- Laws of the newest entry of a piece, and of the table that has it for each.
 use Rattle.std.proofs.Common.{◌≡◌, inl, inr, ℕ, zero, suc, ◌+◌, ◌*◌, ◌<◌, ◌≤◌, Bool, true, false, cond, eqb, List, [], ◌∷◌, ◌++◌, length, get_or, set, take, drop, refl, ap, sym, subst, ◌∙◌, arith, append_assoc, length-append}
-use Rattle.itm_model.proofs.Common.{Adds, AreAmong, AreFirst, AreLinked, AreNewest, ArePieces, AreWithin, IsCovered, IsIndexed, IsPiece, Old, append-nil, cases_eq, cond-false, cond-true, eq-eqb, eqb-true, get_or-set_other, get_or-set_same, length-set, ne_eqb, newest_in, piece_of, pieces_in, take_more, with_one_before}
+use Rattle.std.proofs.lemmas.Bool.Decides.{nat_tests}
+use Rattle.itm_types.proofs.Elements.{all_append, all_at}
+use Rattle.itm_model.proofs.Common.{Adds, AreAmong, AreLinked, AreNewest, ArePieces, AreWithin, IsCovered, IsIndexed, IsPiece, Old, append-nil, cond-false, cond-true, eq-eqb, eqb-true, get_or-set_other, get_or-set_same, length-set, ne_eqb, newest_in, piece_of, pieces_in, take_more, with_one_before}
 
 -- ## The newest entry of a piece
 
-push_case : (t : Bool) (n m : ℕ) (b : Bool) → with_one_before (cond t (suc n) m) b ≡ cond t (suc (suc n)) (with_one_before m b)
-push_case true n m b = refl
-push_case false n m b = refl
-
 newest_push : (os : List Old) (o : Old) (p : ℕ) → newest_in (os ++ o ∷ []) p ≡ cond (eqb (piece_of o) p) (suc (length os)) (newest_in os p)
 newest_push [] o p = refl
-newest_push (x ∷ os) o p =
-    ap (λ t. with_one_before t (eqb (piece_of x) p)) (newest_push os o p) ∙ push_case (eqb (piece_of o) p) (length os) (newest_in os p) (eqb (piece_of x) p)
+newest_push (x ∷ os) o p = grind (arith, nat_tests, newest_push os o p)
 
 pub newest_of_it : (os : List Old) (o : Old) (p : ℕ) → piece_of o ≡ p → newest_in (os ++ o ∷ []) p ≡ suc (length os)
 newest_of_it os o p e = newest_push os o p ∙ cond-true (eqb (piece_of o) p) (suc (length os)) (newest_in os p) (eq-eqb (piece_of o) p e)
@@ -19,33 +16,12 @@ newest_of_it os o p e = newest_push os o p ∙ cond-true (eqb (piece_of o) p) (s
 pub newest_of_another : (os : List Old) (o : Old) (p : ℕ) → (piece_of o ≡ p → ⊥) → newest_in (os ++ o ∷ []) p ≡ newest_in os p
 newest_of_another os o p e = newest_push os o p ∙ cond-false (eqb (piece_of o) p) (suc (length os)) (newest_in os p) (ne_eqb (piece_of o) p e)
 
-before_more : (n m : ℕ) (b : Bool) → n ≤ m → with_one_before n b ≤ with_one_before m b
-before_more zero zero b h = omega arith
-before_more zero (suc m) true h = omega arith
-before_more zero (suc m) false h = omega arith
-before_more (suc n) zero b h = absurd (omega (arith, h))
-before_more (suc n) (suc m) b h = omega (arith, h)
-
 -- more entries
 newest_more : (os more : List Old) (p : ℕ) → newest_in os p ≤ newest_in (os ++ more) p
 newest_more [] more p = omega arith
-newest_more (o ∷ os) more p = before_more (newest_in os p) (newest_in (os ++ more) p) (eqb (piece_of o) p) (newest_more os more p)
+newest_more (o ∷ os) more p = grind (arith, nat_tests, newest_more os more p)
 
 -- ## Whole pieces
-
-pub pieces_push : (n : ℕ) (os : List Old) (o : Old) → ArePieces n os → IsPiece n o → ArePieces n (os ++ o ∷ [])
-pieces_push n [] o w h = (h, tt)
-pieces_push n (x ∷ os) o w h = (w.0, pieces_push n os o w.1 h)
-
-pub pieces_take : (n k : ℕ) (os : List Old) → ArePieces n os → ArePieces n (take k os)
-pieces_take n zero os w = tt
-pieces_take n (suc k) [] w = tt
-pieces_take n (suc k) (o ∷ os) w = (w.0, pieces_take n k os w.1)
-
-pub pieces_drop : (n k : ℕ) (os : List Old) → ArePieces n os → ArePieces n (drop k os)
-pieces_drop n zero os w = w
-pieces_drop n (suc k) [] w = tt
-pieces_drop n (suc k) (o ∷ os) w = pieces_drop n k os w.1
 
 pub pieces_within : (n : ℕ) (os : List Old) → ArePieces n os → AreWithin n os
 pieces_within n [] w = tt
@@ -57,21 +33,6 @@ piece_among n c o e w = omega (arith, e, w.start, w.inside)
 pub pieces_among : (n c : ℕ) (os : List Old) → c ≡ pieces_in n → ArePieces n os → AreAmong c os
 pieces_among n c [] e w = tt
 pieces_among n c (o ∷ os) e w = (piece_among n c o e w.0, pieces_among n c os e w.1)
-
-pub among_at : (c : ℕ) (os : List Old) (i : ℕ) (d : Old) → AreAmong c os → i < length os → piece_of (get_or os i d) < c
-among_at c [] i d w h = absurd (omega (arith, h))
-among_at c (o ∷ os) zero d w h = w.0
-among_at c (o ∷ os) (suc i) d w h = among_at c os i d w.1 (omega (arith, h))
-
-pub among_drop : (c k : ℕ) (os : List Old) → AreAmong c os → AreAmong c (drop k os)
-among_drop c zero os w = w
-among_drop c (suc k) [] w = tt
-among_drop c (suc k) (o ∷ os) w = among_drop c k os w.1
-
-pub among_take : (c k : ℕ) (os : List Old) → AreAmong c os → AreAmong c (take k os)
-among_take c zero os w = tt
-among_take c (suc k) [] w = tt
-among_take c (suc k) (o ∷ os) w = (w.0, among_take c k os w.1)
 
 -- ## Links
 
@@ -101,42 +62,30 @@ linked_at before (o ∷ os) (suc i) d w h =
 -- an entry comes
 pub newest_pushed : (os : List Old) (ns : List ℕ) (o : Old) → AreNewest os ns → piece_of o < length ns → AreNewest (os ++ o ∷ []) (set ns (piece_of o) (suc (length os)))
 newest_pushed os ns o w h q l =
-    let long : length (set ns (piece_of o) (suc (length os))) ≡ length ns = length-set ns (piece_of o) (suc (length os)) in
-    elim (cases_eq (piece_of o) q) [
-      | inl e ↦ ap (λ (t : ℕ). get_or (set ns (piece_of o) (suc (length os))) t 0) (sym e) ∙ (get_or-set_same ns (piece_of o) (suc (length os)) 0 h ∙ sym (newest_of_it os o q e))
-      | inr ne ↦ get_or-set_other ns (piece_of o) q (suc (length os)) 0 (λ e. ne (sym e)) ∙ (w q (omega (arith, l, long)) ∙ sym (newest_of_another os o q ne))
-    ]
+    grind (arith, nat_tests, newest_push os o q, w q, get_or-set_same ns (piece_of o) (suc (length os)) 0 h, get_or-set_other ns (piece_of o) q (suc (length os)) 0, length-set ns (piece_of o) (suc (length os)))
 
 -- the last one is gone
 newest_popped : (os : List Old) (ns : List ℕ) (o : Old) → AreNewest (os ++ o ∷ []) ns → o.earlier ≡ newest_in os (piece_of o) → piece_of o < length ns → AreNewest os (set ns (piece_of o) o.earlier)
 newest_popped os ns o w e h q l =
-    let long : length (set ns (piece_of o) o.earlier) ≡ length ns = length-set ns (piece_of o) o.earlier in
-    elim (cases_eq (piece_of o) q) [
-      | inl same ↦ ap (λ (t : ℕ). get_or (set ns (piece_of o) o.earlier) t 0) (sym same) ∙ (get_or-set_same ns (piece_of o) o.earlier 0 h ∙ (e ∙ ap (newest_in os) same))
-      | inr ne ↦ get_or-set_other ns (piece_of o) q o.earlier 0 (λ e. ne (sym e)) ∙ (w q (omega (arith, l, long)) ∙ newest_of_another os o q ne)
-    ]
+    grind (arith, nat_tests, newest_push os o q, w q, get_or-set_same ns (piece_of o) o.earlier 0 h, get_or-set_other ns (piece_of o) q o.earlier 0, length-set ns (piece_of o) o.earlier)
 
 -- the newest entry is forgotten
 pub newest_forgotten : (os : List Old) (ns : List ℕ) (k : ℕ) (o : Old) → AreLinked [] os → AreAmong (length ns) os → k < length os → o ≡ get_or os k o → AreNewest (take (k + 1) os) ns → AreNewest (take k os) (set ns (piece_of o) o.earlier)
 newest_forgotten os ns k o w a h e n =
     let more : take (k + 1) os ≡ take k os ++ o ∷ [] = take_more os k o h ∙ ap (λ (t : Old). take k os ++ t ∷ []) (sym e) in
     let link : o.earlier ≡ newest_in (take k os) (piece_of o) = subst (λ (t : Old). t.earlier ≡ newest_in (take k os) (piece_of t)) (sym e) (linked_at [] os k o w h) in
-    let among : piece_of o < length ns = subst (λ (t : Old). piece_of t < length ns) (sym e) (among_at (length ns) os k o a h) in
+    let among : piece_of o < length ns = subst (λ (t : Old). piece_of t < length ns) (sym e) (all_at (λ t. piece_of t < length ns) os k o a h) in
     newest_popped (take k os) ns o (subst (λ (t : List Old). AreNewest t ns) more n) link among
 
 pub indexed_push : (n : ℕ) (os : List Old) (ns : List ℕ) (o : Old) → IsIndexed n os ns → IsPiece n o → o.earlier ≡ newest_in os (piece_of o) → IsIndexed n (os ++ o ∷ []) (set ns (piece_of o) (suc (length os)))
 indexed_push n os ns o x w e = record {
-  pieces = pieces_push n os o x.pieces w;
+  pieces = all_append (IsPiece n) os (o ∷ []) x.pieces (w, tt);
   linked = linked_push [] os o x.linked e;
   table = newest_pushed os ns o x.table (piece_among n (length ns) o x.count w);
   count = length-set ns (piece_of o) (suc (length os)) ∙ x.count;
 }
 
 -- ## First entries
-
-pub first_append : (top : ℕ) (xs ys : List Old) → AreFirst top xs → AreFirst top ys → AreFirst top (xs ++ ys)
-first_append top [] ys a b = b
-first_append top (x ∷ xs) ys a b = (a.0, first_append top xs ys a.1 b)
 
 pub adds_none : (top : ℕ) (os : List Old) → Adds top os os
 adds_none top os = ([], sym (append-nil os), tt)
@@ -145,7 +94,7 @@ pub adds_more : (top : ℕ) (a b c : List Old) → Adds top a b → Adds top b c
 adds_more top a b c x y = (
   x.0 ++ y.0,
   y.1 ∙ (ap (λ t. t ++ y.0) x.1 ∙ append_assoc a x.0 y.0),
-  first_append top x.0 y.0 x.2 y.2,
+  all_append _ x.0 y.0 x.2 y.2,
 )
 
 pub adds_longer : (top : ℕ) (a b : List Old) → Adds top a b → length a ≤ length b

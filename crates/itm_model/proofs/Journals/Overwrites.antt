@@ -4,15 +4,16 @@ use Rattle.itm_model.proofs.Common.{Actions, Adds, AreAmong, AreCovered, AreLink
 use Rattle.itm_model.proofs.Journals.CoveredBytes.{covered_write}
 use Rattle.itm_model.proofs.Journals.EntryChains.{handed_adds, handed_linked, handed_pieces, handed_same}
 use Rattle.itm_model.proofs.Journals.EntryBounds.{once_adds, top_under, under_top}
-use Rattle.itm_model.proofs.Journals.Rollbacks.{length-with_slice, length-put_back, AreWithin-drop}
-use Rattle.itm_model.proofs.Journals.NewestEntries.{adds_longer, covered_drop, linked_take, pieces_among, pieces_drop, pieces_take, pieces_within}
+use Rattle.itm_model.proofs.Journals.Rollbacks.{length-with_slice, length-put_back}
+use Rattle.itm_types.proofs.Elements.{all_drop, all_take}
+use Rattle.itm_model.proofs.Journals.NewestEntries.{adds_longer, covered_drop, linked_take, pieces_among, pieces_within}
 use Rattle.itm_model.proofs.OpenBlocks.{AreUnder-more, blocks_same, state_of}
 
 -- what stood while the journal was no longer than at the begin of the innermost block stands again
 kept_restores : (top : ℕ) (j j' : List Old) (m : List ℕ) (p : ℕ) (new : List ℕ) → top ≤ length j → p + length new ≤ length m → AreWithin (length m) j'
     → Restores (length j) j m j' m → AreCovered (drop top j') p (length new) → Restores top j m j' (with_slice m p new)
 kept_restores top j j' m p new t h w r c k l =
-    covered_write (drop k j') m p new (AreWithin-drop (length m) k j' w) h (λ i a b. covered_drop k top j' i l (c i a b))
+    covered_write (drop k j') m p new (all_drop _ k j' w) h (λ i a b. covered_drop k top j' i l (c i a b))
     ∙ r k (omega (arith, l, t))
 
 -- a machine of which shared bytes are written
@@ -66,12 +67,12 @@ in_table n j ns x = pieces_among n (length ns) j x.count x.pieces
 
 -- the entries since the journal had so many are gone
 indexed_cut : (n at : ℕ) (j : List Old) (ns ns' : List ℕ) → IsIndexed n j ns → AreNewest (take at j) ns' → length ns' ≡ length ns → IsIndexed n (take at j) ns'
-indexed_cut n at j ns ns' x t e = record { pieces = pieces_take n at j x.pieces; linked = linked_take at [] j x.linked; table = t; count = e ∙ x.count }
+indexed_cut n at j ns ns' x t e = record { pieces = all_take _ at j x.pieces; linked = linked_take at [] j x.linked; table = t; count = e ∙ x.count }
 
 pub is_cut : (at : ℕ) (j : List Old) (ns m : List ℕ) (j' : List Old) (ns' m' : List ℕ) → AreWithin (length m) j → IsIndexed (length m) j ns
     → m' ≡ put_back (drop at j) m → j' ≡ take at j → AreNewest (take at j) ns' → length ns' ≡ length ns → IsIndexed (length m') j' ns'
 is_cut at j ns m j' ns' m' w x e f t count =
-    let size : length m' ≡ length m = ap (length {A = ℕ}) e ∙ length-put_back (drop at j) m (AreWithin-drop (length m) at j w) in
+    let size : length m' ≡ length m = ap (length {A = ℕ}) e ∙ length-put_back (drop at j) m (all_drop _ at j w) in
     subst (λ (n : ℕ). IsIndexed n j' ns') (sym size) (subst (λ (t : List Old). IsIndexed (length m) t ns') (sym f) (indexed_cut (length m) at j ns ns' x t count))
 
 -- the innermost block's entries are left to the one around it
@@ -93,7 +94,7 @@ is_handed_on j ns m os marks x j' ns' s u o e t count =
     let back = drop x.at j in
     let long : length front ≡ x.at = length-take-le x.at j u.0 in
     let adds : Adds top front j' = subst (Adds top front) (sym e) (handed_adds top front back) in
-    let pieces = handed_pieces n top front back (pieces_take n x.at j s.pieces) (pieces_drop n x.at j s.pieces) in
+    let pieces = handed_pieces n top front back (all_take _ x.at j s.pieces) (all_drop _ x.at j s.pieces) in
     let indexed : IsIndexed n j' ns' = record {
       pieces = subst (ArePieces n) (sym e) pieces;
       linked = subst (AreLinked []) (sym e) (handed_linked top front back (linked_take x.at [] j s.linked));

@@ -1,9 +1,8 @@
 -- What the plain machine does with copies, of the state that an engine stands for.
 use Rattle.std.proofs.Common.{◌≡◌, ℕ, ◌+◌, ◌*◌, ◌≤◌, Bool, true, false, List, length, Option, Some, None, refl, sym, ap, ◌∙◌, arith}
 use Rattle.norec_accesses.proofs.Common.{Actions, AreBytes, AreRows, Copy, CopyPair, Copying, Data, Done, Frame, Idle, In, IsMemory, IsSound, Out, Refusal, Refused, Replies, Row, State, Within, accepted_sides, after, after_unless, arena_copied, arena_within, bytes_of, came, copy_refusal, core, denied, direction_of, effect, in_block, is_clear, is_inside, is_some_row, length-bytes_of, length-overlay, length-source_in, length-with_slice, open_is, or_else, overlay, refusal, refuses, reply, reply_unless, saved_in_arena, shared_within, source_bytes, source_in, source_is, stands, state_over, target_is, target_refusal, target_written, unless, with_slice, writes_copied, written_over}
-use Rattle.itm_types.specs.declared.call.Refusal.TheVariants.{Outside}
+use Rattle.itm_types.{specs.declared.call.Refusal.TheVariants.Outside, specs.declared.call.Refusal.TheVariants.Overlap}
 use Rattle.norec_core.proofs.Engines.Blocks.{blocks_over-same}
-use Rattle.itm_types.specs.declared.call.Refusal.TheVariants.{Overlap}
 
 -- ## Refusals
 

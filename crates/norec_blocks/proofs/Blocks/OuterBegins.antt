@@ -1,10 +1,9 @@
 -- Outermost begins that stay revocable: the clock is asked for, and where it is even the block begins.
 use Rattle.std.proofs.Common.{◌≡◌, ℕ, ◌%◌, ◌<◌, ◌≤◌, Bool, true, false, [], ◌∷◌, length, if◌then◌else◌, arith, refl, sym, ap, subst, rules}
 use Rattle.norec_blocks.proofs.Common.{Begin as Begins, BeginTurns, CallEnd, CallTurns, Code, Data, End, Idle, IsSound, Nest, Props, Reply, StepTurns, Turns, Wait, answer_of, begun, begun_first, begun_same, came, cond-false, core, counted, in_block, may_go, no_actions}
-use Rattle.norec_data.specs.Bounds.{IsBounded}
+use Rattle.norec_data.{specs.Bounds.IsBounded, specs.Bounds.IsOutside}
 use Rattle.norec_core.specs.Phases.{Begin}
 use Rattle.norec_data.specs.declared.pending.Pending.TheVariants as waits
-use Rattle.norec_data.specs.Bounds.{IsOutside}
 use Rattle.norec_blocks.proofs.Blocks.Begins.{begin_asks, begun_with}
 
 -- the fields as the clock is to be loaded

@@ -3,8 +3,7 @@ use Rattle.std.proofs.Common.{◌≡◌, ℕ, ◌+◌, ◌%◌, ◌<◌, ◌≤�
 use Rattle.norec_blocks.proofs.Common.{Aim, AllWritesWithin, Answer, AreFrames, AreRows, CallEnd, Conflict, Core, Data, End, Ends, Frame, GoesBack, IsEnding, IsLog, IsLog-take, IsOpen, IsSound, IsSoundTurn, Restarted, StepTurns, actions_cancelled, answer_of, begun_renewed, begun_same, blocks_renewed, cond-true, core, found_at, handed, in_block, is_inside, is_within, reads_of, renewed, rolled_back_to, row_at, rows_of, slice_get-get_or, stands_for}
 use Rattle.norec_turns.specs.OpenBegins.{AreBegun}
 use Rattle.norec_core.specs.Phases as at
-use Rattle.norec_core.specs.Restarts.{Restarts, begun_again}
-use Rattle.norec_core.proofs.Engines.BlocksAgain.{restart_parts, stands_renewed}
+use Rattle.norec_core.{specs.Restarts.Restarts, specs.Restarts.begun_again, proofs.Engines.BlocksAgain.restart_parts, proofs.Engines.BlocksAgain.stands_renewed}
 use Rattle.norec_blocks.specs.Restarts.{IsRenewed, MayRenew}
 
 -- ## The blocks

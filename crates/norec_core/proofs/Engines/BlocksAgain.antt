@@ -1,8 +1,8 @@
 -- A block that goes back to its begin: what the engine stands for then.
-use Rattle.std.proofs.Common.{◌≡◌, ℕ, ◌<◌, ◌≤◌, ◌&&◌, nat_le, nat_lt, Bool, true, false, List, [], ◌∷◌, length, take, Some, refl, sym, ap, ◌∙◌, if◌then◌else◌}
-use Rattle.norec_core.proofs.Common.{Core, Frame, State, and_parts, back, begun_again, blocks_over, bytes_of, irrevocable_from, is_some_row, is_within, kept_from, kept_of, leb-true, length-take-le, log_of, ltb-true, may_restart, overlay, pushed, put_back, reads_of, renewed, stands_for}
-use Rattle.itm_types.specs.KeptBytes.{nothing, restored}
-use Rattle.itm_types.proofs.KeptBytes.{nothing_same}
+use Rattle.std.proofs.Common.{◌≡◌, ℕ, ◌<◌, ◌≤◌, Bool, true, false, List, [], ◌∷◌, length, take, Some, refl, sym, ap, ◌∙◌, if◌then◌else◌, arith}
+use Rattle.std.proofs.lemmas.Bool.Decides.{nat_tests}
+use Rattle.norec_core.proofs.Common.{Core, Frame, State, back, begun_again, blocks_over, bytes_of, irrevocable_from, is_some_row, is_within, kept_from, kept_of, length-take-le, log_of, may_restart, overlay, pushed, put_back, reads_of, renewed, stands_for}
+use Rattle.itm_types.{specs.KeptBytes.nothing, specs.KeptBytes.restored, proofs.KeptBytes.nothing_same}
 
 -- what blocks keep of an arena tells no more of it than how long it is
 pub blocks_sized : (bs : List Frame) (a b m : List ℕ) → nothing a ≡ nothing b → blocks_over bs a m ≡ blocks_over bs b m
@@ -32,18 +32,14 @@ module _ (c : Core) (b p : Frame) (outer : List Frame) (clock : ℕ) (m : List �
 
 -- what is so where a block may go back to its begin
 pub restart_parts : (c : Core) (row : ℕ) → may_restart c row ≡ true → (is_within c.blocks ≡ true) × (reads_of c.blocks ≤ row) × (c.restarted < c.restarts)
-restart_parts c row may =
-    let last = and_parts (is_within c.blocks && nat_le (reads_of c.blocks) row) (nat_lt c.restarted c.restarts) may in
-    let first = and_parts (is_within c.blocks) (nat_le (reads_of c.blocks) row) last.0 in
-    (first.0, leb-true (reads_of c.blocks) row first.1, ltb-true c.restarted c.restarts last.1)
+restart_parts c row may = (grind (arith, nat_tests), grind (arith, nat_tests), grind (arith, nat_tests))
 
 -- whichever blocks are open, where one is within another
 pub stands_renewed : (c : Core) (blocks : List Frame) (clock : ℕ) (m : List ℕ) → is_within blocks ≡ true
     → put_back (log_of blocks) c.arena ≡ restored (kept_of c.arena (log_of blocks)) c.arena → length (put_back (log_of blocks) c.arena) ≡ length c.arena
     → ((b : Frame) (bs : List Frame) → blocks ≡ b ∷ bs → (b.props.goes_irrevocable ≡ false) × (b.commits ≤ length c.actions.commits) × (b.undos ≤ length c.actions.undos))
     → stands_for (renewed (record c { irrevocable = false; blocks = blocks }) clock) m ≡ begun_again blocks (back (stands_for (record c { irrevocable = false; blocks = blocks }) m))
-stands_renewed c [] clock m within puts size begun = absurd (cc)
-stands_renewed c (b ∷ []) clock m within puts size begun = absurd (cc)
 stands_renewed c (b ∷ p ∷ outer) clock m within puts size begun =
     let has = begun b (p ∷ outer) refl in
     stands_again c b p outer clock m (sym puts) (nothing_same (put_back b.log c.arena) c.arena size) has.0 has.1 has.2
+stands_renewed c blocks clock m within puts size begun = absurd (cc)

@@ -1,8 +1,8 @@
 -- By which calls the innermost block may go back to its begin.
-use Rattle.std.proofs.Common.{◌≡◌, ℕ, ◌+◌, ◌*◌, ◌&&◌, not, nat_le, nat_lt, Bool, true, false, true≢false, if◌then◌else◌, List, [], ◌∷◌, length, None, Some, refl, sym, ap, ◌∙◌}
-use Rattle.norec_core.proofs.Common.{Begin, Call, Commit, CommitAction, Copy, CopyPair, Copying, Core, Fill, Frame, Idle, In, Mode, Out, Phase, Props, Read, UndoAction, Within, Write, and_parts, chunk_from, commit_stage, cond-true, copy_stage, going_stage, in_transaction, is_outermost, is_within, may_go, placed_in, size_of, stage_at}
+use Rattle.std.proofs.Common.{◌≡◌, ℕ, ◌+◌, ◌*◌, ◌&&◌, not, nat_le, nat_lt, Bool, true, false, true≢false, if◌then◌else◌, List, [], ◌∷◌, length, None, Some, refl, ap, ◌∙◌, arith}
+use Rattle.std.proofs.lemmas.Bool.Decides.{nat_tests}
+use Rattle.norec_core.proofs.Common.{Begin, Call, Commit, Copy, CopyPair, Copying, Core, Fill, Frame, Idle, In, Mode, Out, Phase, Props, Read, Within, Write, chunk_from, commit_stage, cond-true, copy_stage, going_stage, in_transaction, is_outermost, is_within, may_go, placed_in, size_of, stage_at}
 use Rattle.norec_core.specs.declared.call_parts.Taking.TheVariants as takings
-use Rattle.norec_core.proofs.Replies.ActionCounts.{registers}
 use Rattle.norec_core.specs.RestartingCalls.{arena_ahead, can_restart, may_validate, reads_shared}
 
 -- ## Calls that ask for no step
@@ -42,23 +42,11 @@ module _ (c : Core) (again : Bool) (revocable : c.irrevocable ≡ false) (inside
   idle_so (Fill hint to byte size) e = off (in_transaction c && nat_le (to + size) (8 * c.words)) _ (still _)
   idle_so call e = refl
 
--- a call that can restart a block registers no action
-pub validates_none : (call : Call) → may_validate call ≡ true → registers call ≡ 0
-validates_none (CommitAction action) e = absurd (true≢false (sym e))
-validates_none (UndoAction action) e = absurd (true≢false (sym e))
-validates_none call e = refl
-
 -- ## A call by which the block may go back
-
-not_not : (b : Bool) → not b ≡ true → b ≡ false
-not_not true e = absurd (true≢false (sym e))
-not_not false e = refl
 
 -- a transaction in which one may go back so may be tried again
 pub can_revocable : (e : Core) (call : Call) → can_restart e call ≡ true → e.irrevocable ≡ false
-can_revocable e call can =
-    let last = (and_parts (nat_lt e.restarted e.restarts) (not e.irrevocable && (is_within e.blocks && may_validate call)) can).1 in
-    not_not e.irrevocable (and_parts (not e.irrevocable) (is_within e.blocks && may_validate call) last).0
+can_revocable e call can = grind (arith, nat_tests)
 
 -- the bytes for which room is made before it
 pub ahead_of_it : (e : Core) (call : Call) → can_restart e call ≡ true → arena_ahead e call ≡ Some (length e.arena)
@@ -66,8 +54,4 @@ ahead_of_it e call can = ap (λ (b : Bool). if b then Some (length e.arena) else
 
 -- room is made before no other
 pub ahead_revocable : (e : Core) (call : Call) (bytes : ℕ) → arena_ahead e call ≡ Some bytes → e.irrevocable ≡ false
-ahead_revocable e call bytes ahead = by_test (can_restart e call) refl
-  where
-    by_test : (b : Bool) → can_restart e call ≡ b → e.irrevocable ≡ false
-    by_test true can = can_revocable e call can
-    by_test false never = absurd (let none : None ≡ Some bytes = sym (ap (λ (b : Bool). if b then Some (length e.arena) else None) never) ∙ ahead in cc)
+ahead_revocable e call bytes ahead = grind (arith, nat_tests, can_revocable e call)

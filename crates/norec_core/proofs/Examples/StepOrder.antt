@@ -1,14 +1,13 @@
 -- Worked cases of the step order, computed: what a call asks for, step by step, and how it ends. The clock is cell 0, and word w is cell w + 1.
 use Rattle.std.proofs.Common.{◌≡◌, ℕ, ◌*◌, List, [], ◌∷◌, true, false, Option, None, Some, refl}
 use Rattle.norec_core.proofs.Common.{Answer, BackLoad, Busy, Call, Committed, Confirm, Conflict, Core, Exchange, Free, Full, Idle, LogRow, Phase, Props, RoundEnd, RoundRow, RoundStart, Row, Step, U8, asked, begun, came, ending_after, ending_at, gathered_at, handed, log_after, no_actions, opening, snapshot_after, stage_after, stage_at, tries_after, tries_at}
-use Rattle.norec_core.specs.declared.call_parts.Reading.{Reading}
+use Rattle.norec_core.{specs.declared.call_parts.Reading.Reading, specs.Phases.Begin, specs.Phases.Store, specs.Phases.Load}
 use Rattle.itm_types.specs.declared.access.ReadHint.TheVariants.{R}
 use Rattle.itm_types.specs.declared.step.Step.TheVariants as steps
 use Rattle.itm_types.specs.declared.call.Call.TheVariants as calls
 use Rattle.norec_core.specs.declared.call_parts.Purpose.TheVariants as for
 use Rattle.norec_core.specs.Aims as aims
 use Rattle.norec_core.specs.declared.call_parts.Taking.TheVariants as takings
-use Rattle.norec_core.specs.Phases.{Begin, Store, Load}
 
 -- ## What is played
 

@@ -1,9 +1,8 @@
 -- Over an answer, no action that has run is lost, and there are no more actions in all than before, but for one that is registered.
-use Rattle.std.proofs.Common.{◌≡◌, ℕ, ◌+◌, ◌≤◌, Bool, true, false, true≢false, if◌then◌else◌, List, [], ◌∷◌, ◌++◌, length, map, take, drop, reverse, refl, sym, ap, inl, inr, ◌∙◌, arith, append-nil, append_assoc, length-append}
-use Rattle.norec_core.proofs.Common.{Abort, Action, Actions, Begin, Call, Code, Commit, CommitAction, Core, Done, Frame, Idle, Log, LogBytes, Old, Replied, State, UndoAction, actions_after, actions_back, actions_cancelled, actions_closed, after_undoing, as_commit, as_undo, block_over, blocks_after, blocks_over, cases_Bool, closed, committed, cut_back, found, in_transaction, is_abort, is_begin, is_inside, is_outermost, length-map, length-reverse, logged, plainly_back, registered, rolled_back, size_of, take-append-drop, total, undone_from}
+use Rattle.std.proofs.Common.{◌≡◌, ℕ, ◌+◌, ◌≤◌, Bool, true, false, true≢false, if◌then◌else◌, List, [], ◌∷◌, ◌++◌, length, map, take, drop, reverse, refl, sym, ap, inl, inr, ◌∙◌, arith, append-nil, append_assoc, length-append, subst}
+use Rattle.norec_core.proofs.Common.{Abort, Action, Actions, Begin, Call, Code, Commit, CommitAction, Core, Done, Frame, Idle, Log, LogBytes, Replied, State, UndoAction, actions_after, actions_back, actions_cancelled, actions_closed, after_undoing, as_commit, as_undo, block_over, blocks_after, blocks_over, cases_Bool, closed, committed, cut_back, in_transaction, is_abort, is_begin, is_inside, is_outermost, length-map, length-reverse, plainly_back, registered, rolled_back, take-append-drop, total, undone_from}
 use Rattle.itm_types.specs.declared.call.Ran.{Ran}
-use Rattle.norec_core.proofs.Engines.Blocks.{none_inside}
-use Rattle.norec_core.proofs.Replies.ReplyCases.{IsReplied}
+use Rattle.norec_core.{proofs.Engines.Blocks.none_inside, proofs.Replies.ReplyCases.IsReplied}
 use Rattle.itm_types.specs.declared.call.ActionKind.TheVariants as kinds
 
 -- more of them have run, and there are at most so many more in all
@@ -62,10 +61,6 @@ registers call = 0
 one_more : (xs : List Action) (action : Action) → length (xs ++ action ∷ []) ≡ length xs + 1
 one_more xs action = length-append xs (action ∷ [])
 
-begins : (c : Core) (b : Bool) → in_transaction c ≡ b → b ≡ true → RunsOn 0 c.actions (if b then c.actions else record c.actions { ran = [] })
-begins c true o e = still 0 c.actions
-begins c false o e = absurd (cc)
-
 cancels : (c : Core) (outer : Bool) → RunsOn 0 c.actions (if outer then actions_back c.blocks c.actions else actions_cancelled c.blocks c.actions)
 cancels c true = all_run c.blocks c.actions
 cancels c false = cancel_runs c.blocks c.actions
@@ -80,7 +75,7 @@ undo_on c action false = record {
 
 -- a reply within a transaction
 replied_on : (c : Core) (call : Call) (r : Replied) → in_transaction c ≡ true → RunsOn (registers call) c.actions (actions_after c call r)
-replied_on c (Begin props room) (Code n) o = begins c (in_transaction c) refl o
+replied_on c (Begin props room) (Code n) o = subst (λ (b : Bool). RunsOn 0 c.actions (if b then c.actions else record c.actions { ran = [] })) (sym o) (still 0 c.actions)
 replied_on c (Begin props room) r o = still 0 c.actions
 replied_on c Commit Done o = close_runs c.blocks c.actions
 replied_on c Commit r o = still 0 c.actions
@@ -103,10 +98,6 @@ inner_closes [] a i = refl
 inner_closes (b ∷ []) a i = absurd (cc)
 inner_closes (b ∷ p ∷ bs) a i = refl
 
-undo_same : (c : Core) (action : Action) (irrevocable : Bool) → (if irrevocable then c.actions else registered kinds.Undo action c.actions).ran ≡ c.actions.ran
-undo_same c action true = refl
-undo_same c action false = refl
-
 -- no other reply than that to a cancel runs actions where the transaction stays open
 ran_same : (c : Core) (call : Call) (r : Replied) → is_abort call ≡ false → in_transaction c ≡ true → ((r ≡ Done) → call ≡ Commit → is_outermost c.blocks ≡ false) → (actions_after c call r).ran ≡ c.actions.ran
 ran_same c (Begin props room) (Code n) other o inner = ap (λ (b : Bool). (if b then c.actions else record c.actions { ran = [] }).ran) o
@@ -116,7 +107,7 @@ ran_same c Commit r other o inner = refl
 ran_same c (Abort outer) r other o inner = absurd (cc)
 ran_same c (CommitAction action) Done other o inner = refl
 ran_same c (CommitAction action) r other o inner = refl
-ran_same c (UndoAction action) Done other o inner = undo_same c action c.irrevocable
+ran_same c (UndoAction action) Done other o inner = grind arith
 ran_same c (UndoAction action) r other o inner = refl
 ran_same c call r other o inner = refl
 
@@ -139,23 +130,15 @@ given_up_actions c free = ap (λ (h : Bool). (if h then c else record (rolled_ba
 
 -- ## A transaction that begins
 
-both_ways : (outer : Bool) (blocks : List Frame) → blocks ≡ [] → is_inside (if outer then [] else drop 1 blocks) ≡ false
-both_ways true blocks none = refl
-both_ways false blocks none = ap (λ (bs : List Frame). is_inside (drop 1 bs)) none
-
-none_logged : (irrevocable : Bool) (blocks : List Frame) (olds : List Old) → blocks ≡ [] → is_inside (if irrevocable then blocks else logged blocks olds) ≡ false
-none_logged true blocks olds none = ap is_inside none
-none_logged false blocks olds none = ap (λ (bs : List Frame). is_inside (logged bs olds)) none
-
 no_block : (mid : Core) (call : Call) (r : Replied) → mid.blocks ≡ [] → is_begin call ≡ false → is_inside (blocks_after mid call r) ≡ false
 no_block mid (Begin props room) r none other = absurd (cc)
 no_block mid Commit Done none other = ap (λ (bs : List Frame). is_inside (closed bs)) none
 no_block mid Commit r none other = ap is_inside none
-no_block mid (Abort outer) (Code n) none other = both_ways outer mid.blocks none
+no_block mid (Abort outer) (Code n) none other = grind arith
 no_block mid (Abort outer) r none other = ap is_inside none
-no_block mid (Log width at) Done none other = none_logged mid.irrevocable mid.blocks (found mid.arena at (size_of width)) none
+no_block mid (Log width at) Done none other = grind arith
 no_block mid (Log width at) r none other = ap is_inside none
-no_block mid (LogBytes at size) Done none other = none_logged mid.irrevocable mid.blocks (found mid.arena at size) none
+no_block mid (LogBytes at size) Done none other = grind arith
 no_block mid (LogBytes at size) r none other = ap is_inside none
 no_block mid call r none other = ap is_inside none
 

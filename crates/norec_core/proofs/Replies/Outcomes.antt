@@ -2,8 +2,7 @@
 use Rattle.std.proofs.Common.{◌≡◌, ℕ, ◌+◌, Bool, true, false, List, [], map, Option, None, Some, refl, sym, ap, subst, ◌∙◌}
 use Rattle.norec_core.proofs.Common.{Agrees, Answer, Answers, Asks, AsksFor, Busy, Call, Committed, Conflict, ConflictsIn, Core, Ends, EndsSo, Full, IsEnding, IsMemory, IsSettled, Next, Phase, Proceeds, Replied, RepliesBy, RepliesTo, Reply, Restarted, Step, actions_after, arena_after, arena_held, asked, asked_from, asked_in, blocks_after, came, ended, ending_after, ending_at, finished, gathered_at, handed, in_transaction, is_inside, made_irrevocable, renewed, rolled_back, room_left, tries_after, tries_at, writes_after}
 use Rattle.norec_core.specs.Phases as at
-use Rattle.norec_core.proofs.Replies.AnsweredEngines.{rests}
-use Rattle.norec_core.specs.Moves.{IsCalled, IsResumed}
+use Rattle.norec_core.{proofs.Replies.AnsweredEngines.rests, specs.Moves.IsCalled, specs.Moves.IsResumed}
 
 -- who waits for a step is not idle
 idle_of : (c : Core) (s : Phase) → asked_from c s ≡ None → s ≡ at.Idle

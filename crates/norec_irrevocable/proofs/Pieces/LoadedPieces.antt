@@ -1,9 +1,8 @@
 -- A read of an irrevocable transaction goes on from piece to piece.
-use Rattle.std.proofs.Common.{◌≡◌, ℕ, suc, ◌+◌, ◌/◌, ◌<◌, ◌≤◌, nat_lt, true, false, List, [], ◌++◌, length, drop, take, Option, None, Some, is_some, slice_get, length-append, refl, sym, ap, ◌∙◌, arith, slice_index}
-use Rattle.norec_irrevocable.proofs.Common.{Data, IsPiece, LoadsFor, Phase, Piece, Purpose, Reading, State, append-nil, cond-false, copy_refusal, count_of, drop_all, gathered, le-ltb, length-gathered-all, length-map-range_with_len, length-part_of, part_of, piece_of, pieces_of, read_from, reading_of, take_all-pieces_of}
+use Rattle.std.proofs.Common.{◌≡◌, ℕ, suc, ◌<◌, ◌≤◌, nat_lt, true, false, List, [], ◌++◌, length, drop, take, Option, None, Some, is_some, slice_get, refl, sym, ap, ◌∙◌}
+use Rattle.norec_irrevocable.proofs.Common.{Data, LoadsFor, Phase, Piece, Purpose, Reading, State, append-nil, cond-false, copy_refusal, count_of, gathered, le-ltb, length-gathered-all, no_pieces, none_there, part_of, piece_there, pieces_of, read_from, reading_of, take_all-pieces_of}
 use Rattle.norec_core.specs.declared.call_parts.Purpose.TheVariants as for
 use Rattle.norec_irrevocable.proofs.Replies.HeldAccesses.{gathers_on}
-use Rattle.norec_irrevocable.proofs.Pieces.PlacedPieces.{none_there, piece_there}
 
 -- what a read is made for does not change as it goes on
 pub loads_later : (d new : Data) (what : Purpose) (at size : ℕ) → new.words ≡ d.words → new.arena ≡ d.arena → LoadsFor d what at size → LoadsFor new what at size
@@ -15,22 +14,7 @@ pub reading_next : (what : Purpose) (r : Reading) (n : ℕ) (s : State) (bytes :
 reading_next (for.Value hint width) r n s bytes = refl
 reading_next (for.Chunk k number) r n s bytes = refl
 
--- a piece more
-pub longer : (bytes : List ℕ) (at size n : ℕ) (p : Piece) (seen : ℕ) → IsPiece p
-    → gathered [] (take (n + 1) (pieces_of at size)) ≡ gathered [] (take n (pieces_of at size)) ++ part_of p (slice_index [] p.word)
-    → length bytes ≡ length (gathered [] (take n (pieces_of at size))) → length (bytes ++ part_of p seen) ≡ length (gathered [] (take (n + 1) (pieces_of at size)))
-longer bytes at size n p seen is next e =
-    omega (
-      arith,
-      e,
-      ap (length {A = ℕ}) next,
-      length-append bytes (part_of p seen),
-      length-append (gathered [] (take n (pieces_of at size))) (part_of p (slice_index [] p.word)),
-      length-part_of p seen is.in_word,
-      length-part_of p (slice_index [] p.word) is.in_word,
-    )
-
--- and the last one
+-- the last piece is gathered
 pub whole_length : (at size n : ℕ) → size ≤ 32 → count_of at size ≤ n → length (gathered [] (take n (pieces_of at size))) ≡ size
 whole_length at size n small past = ap (λ (ps : List Piece). length (gathered [] ps)) (take_all-pieces_of at size n past) ∙ length-gathered-all [] at size small
 
@@ -50,5 +34,5 @@ read_ends past r l = cond-false (nat_lt r.number (count_of r.at r.size)) _ past 
 pub gathers_all : (m bytes : List ℕ) (at size n : ℕ) (p : Piece) (seen : ℕ) → slice_get (pieces_of at size) n ≡ Some p → slice_get m p.word ≡ Some seen → count_of at size ≤ suc n
     → bytes ++ part_of p seen ≡ bytes ++ gathered m (drop n (pieces_of at size))
 gathers_all m bytes at size n p seen is found past =
-    sym (ap (λ (ps : List Piece). (bytes ++ part_of p seen) ++ gathered m ps) (drop_all (suc n) (pieces_of at size) (omega (arith, past, length-map-range_with_len (piece_of at size) (at / 8) (count_of at size)))) ∙ append-nil (bytes ++ part_of p seen))
+    sym (ap (λ (ps : List Piece). (bytes ++ part_of p seen) ++ gathered m ps) (no_pieces at size (suc n) past) ∙ append-nil (bytes ++ part_of p seen))
     ∙ gathers_on m bytes at size n p seen is found

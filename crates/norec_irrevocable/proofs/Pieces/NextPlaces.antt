@@ -2,8 +2,7 @@
 use Rattle.std.proofs.Common.{◌≡◌, ℕ, ◌+◌, ◌*◌, ◌≤◌, true, length, sym, subst, ◌∙◌, inl, inr}
 use Rattle.norec_irrevocable.proofs.Common.{Data, InPhase, IsHeld, IsNext, IsOn, IsPlacing, IsSoundAfter, PlacesFor, Target, Wait, Writing, chunk_source, copy_refusal, counted, phase_of}
 use Rattle.norec_core.specs.declared.call_parts.Target.TheVariants as into
-use Rattle.norec_data.specs.declared.pending.Pending.{Pending}
-use Rattle.norec_data.proofs.CallsInProgress.{is_waiting}
+use Rattle.norec_data.{specs.declared.pending.Pending.Pending, proofs.CallsInProgress.is_waiting}
 
 -- what is written is so whatever the piece, and however many steps were asked for
 pub places_later : (d new : Data) (target : Target) (start size : ℕ) → new.words ≡ d.words → new.arena ≡ d.arena → new.gathered.items ≡ d.gathered.items → new.value.width ≡ d.value.width → PlacesFor d target start size → PlacesFor new target start size

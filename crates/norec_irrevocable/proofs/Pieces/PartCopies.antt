@@ -1,10 +1,8 @@
 -- A copy or a fill chunk by chunk comes to what one of the whole range does.
 use Rattle.std.proofs.Common.{◌≡◌, ℕ, ◌+◌, ◌*◌, ◌-◌, ◌<◌, ◌≤◌, ◌&&◌, nat_lt, if◌then◌else◌, Bool, true, false, List, [], ◌∷◌, length, replicate, take, None, refl, ap, sym, ◌∙◌, inl, inr, arith}
 use Rattle.norec_irrevocable.proofs.Common.{AllByRecursion, Chunk, CopyPair, Copying, Direction, Down, In, IsSafe, Out, State, Up, Within, accepted_sides, arena_within, chunk_count, chunk_of, chunks_before, chunks_in, chunks_moved, chunks_of, chunks_written, copied, copied_each, copy_refusal, direction_of, drop-replicate, filled_each, length-map-range_with_len, length-replicate, ltb-false, ltb-true, shared_within, slice, take-replicate, take_all, with_slice, written_at as written}
-use Rattle.itm_types.specs.declared.copy.SharedSide.{SharedSide}
-use Rattle.itm_types.specs.Copies.{overlap}
-use Rattle.word_pieces.proofs.ChunkBytes.{all-moved}
-use Rattle.word_pieces.proofs.Lists.{slice-slice, length-slice}
+use Rattle.itm_types.{specs.declared.copy.SharedSide.SharedSide, specs.Copies.overlap}
+use Rattle.word_pieces.{proofs.ChunkBytes.all-moved, proofs.Lists.slice-slice, proofs.Lists.length-slice}
 use Rattle.access_rules.proofs.Ranges.{IsPart, parts-chunks_of, written-chunks_of}
 
 -- the same state with this memory and this arena, a shared byte of it being written

@@ -1,9 +1,7 @@
 -- A write, a copy or a fill is done.
 use Rattle.std.proofs.Common.{◌≡◌, ℕ, ◌+◌, ◌*◌, ◌≤◌, true, List, replicate, Option, None, refl, sym, ap, ◌∙◌, Bool, length}
 use Rattle.norec_irrevocable.proofs.Common.{Call, Copy, Copying, Data, Datum, Done, Fill, IsMemory, IsServed, Read, ReadHint, Refusal, RepliesHeld, Reply, Width, Write, WriteHint, actions_after, arena_held, blocks_after, bytes_reply, copy_refusal, core_held, in_block, in_call, kept, refusal, reply_held, reply_unless, room_left, size_of}
-use Rattle.norec_irrevocable.proofs.Replies.KeptStates.{copy_kept}
-use Rattle.norec_irrevocable.proofs.Replies.HeldAccesses.{access_served}
-use Rattle.norec_irrevocable.proofs.Replies.HeldReplies.{zeros}
+use Rattle.norec_irrevocable.{proofs.Replies.KeptStates.copy_kept, proofs.Replies.HeldAccesses.access_served, proofs.Replies.HeldReplies.zeros}
 
 module _ (d : Data) (o : in_block d ≡ true) where
   pub copy_served : (k : Copying) → IsServed d k → (m : List ℕ) → IsMemory d.words m → refusal d.frames.depth (kept d m) (Copy k) ≡ None

@@ -1,19 +1,12 @@
 -- What reads and writes of an irrevocable transaction come to.
-use Rattle.std.proofs.Common.{◌≡◌, ℕ, suc, ◌+◌, ◌*◌, ◌^◌, ◌<◌, ◌≤◌, nat_le, Bool, true, false, List, ◌++◌, length, drop, Option, None, Some, slice_get, slice_set, refl, sym, ap, subst, ◌∙◌, inl, inr, arith, slice_index}
-use Rattle.norec_irrevocable.proofs.Common.{AllFit, AllFit-at, AreBytes, Call, Data, Datum, Done, Got, IsMemory, IsPiece, OutOfRange, Outside, Piece, Read, ReadHint, Refusal, State, Width, Write, WriteHint, Writing, access_of, access_refusal, after, after_unless, answer, append_assoc, bytes_of-written, bytes_reply, cases_Bool, effect, gathered, gathered-pieces_of, in_block, index_of, kept, le-leb, leb-true, length-set, mask_of, merge, or_else, part_of, piece_mask, pieces_of, placed_piece, placed_value, refusal, reply, reply_unless, scattered, size_of, some_drop, unless, whole, with_piece, written, written_at}
+use Rattle.std.proofs.Common.{◌≡◌, ℕ, suc, ◌+◌, ◌*◌, ◌^◌, ◌<◌, ◌≤◌, true, List, ◌++◌, length, drop, Option, None, Some, slice_get, slice_set, refl, sym, ap, subst, ◌∙◌, arith, slice_index}
+use Rattle.norec_irrevocable.proofs.Common.{AllFit, AllFit-at, AreBytes, Call, Data, Datum, Done, Got, IsMemory, IsPiece, OutOfRange, Outside, Piece, Read, ReadHint, Width, Write, WriteHint, Writing, access_of, after, append_assoc, bytes_of-written, bytes_reply, gathered, gathered-pieces_of, in_block, index_of, kept, le-leb, length-set, mask_of, merge, or_else, part_of, piece_mask, pieces_of, placed_piece, placed_value, refusal, reply, scattered, serves, size_of, some_drop, unless, whole, with_piece, written, written_at}
 use Rattle.word_pieces.proofs.Bits.{merge-lt, merge-whole}
 use Rattle.itm_types.proofs.WordLists.{fit-set}
 use Rattle.access_rules.proofs.Writings.{scattered_lt}
 use Rattle.norec_irrevocable.proofs.Replies.KeptStates.{access_kept}
 
 -- ## What is served
-
-pub accepted : (is_open : Bool) (words at size : ℕ) → access_refusal is_open words at size ≡ None → at + size ≤ 8 * words
-accepted false words at size e = absurd (cc)
-accepted true words at size e = elim (cases_Bool (nat_le (at + size) (8 * words))) [
-  | inl within ↦ leb-true (at + size) (8 * words) within
-  | inr far ↦ (let some : Some OutOfRange ≡ None = ap (λ (b : Bool). unless b OutOfRange) (sym far) ∙ e in absurd (cc))
-]
 
 module _ (d : Data) (o : in_block d ≡ true) (m : List ℕ) (mem : IsMemory d.words m) where
   pub access_served : (call : Call) (at size : ℕ) → access_of call ≡ Some (at, size) → at + size ≤ 8 * d.words → refusal d.frames.depth (kept d m) call ≡ None
@@ -25,25 +18,15 @@ module _ (d : Data) (o : in_block d ≡ true) (m : List ℕ) (mem : IsMemory d.w
   pub read_comes : (hint : ReadHint) (width : Width) (at : ℕ) → at + size_of width ≤ 8 * d.words
       → (kept d m ≡ after d.frames.depth (kept d m) (Read hint width at)) × (bytes_reply (gathered m (pieces_of at (size_of width))) ≡ reply d.frames.depth (kept d m) (Read hint width at))
   read_comes hint width at l =
-      let s : State = kept d m in
-      let none = access_served (Read hint width at) at (size_of width) refl l in
-      let n = mem.0 in (
-        sym (ap (λ (r : Option Refusal). after_unless r s s) none),
-        ap bytes_reply (gathered-pieces_of m at (size_of width) (omega (arith, n)))
-            ∙ sym (ap (λ (r : Option Refusal). reply_unless r (answer s (Read hint width at))) none),
-      )
+      let all = serves d.frames.depth (kept d m) (Read hint width at) (access_served (Read hint width at) at (size_of width) refl l) in
+      (all.0, ap bytes_reply (gathered-pieces_of m at (size_of width) (omega (arith, l, mem.0))) ∙ all.1)
 
   -- and of a write
   pub write_comes : (hint : WriteHint) (value : Datum) (at : ℕ) → at + size_of value.width ≤ 8 * d.words → AreBytes value.bytes.items
       → (kept d (written m (pieces_of at (size_of value.width)) value.bytes.items) ≡ after d.frames.depth (kept d m) (Write hint at value)) × (Done ≡ reply d.frames.depth (kept d m) (Write hint at value))
   write_comes hint value at l fit =
-      let s : State = kept d m in
-      let none = access_served (Write hint at value) at (size_of value.width) refl l in
-      let n = mem.0 in (
-        ap (λ (bytes : List ℕ). record s { memory = bytes }) (bytes_of-written m value.bytes.items at (size_of value.width) fit value.sized (omega (arith, n)))
-            ∙ sym (ap (λ (r : Option Refusal). after_unless r s (effect s (Write hint at value))) none),
-        sym (ap (λ (r : Option Refusal). reply_unless r Done) none),
-      )
+      let all = serves d.frames.depth (kept d m) (Write hint at value) (access_served (Write hint at value) at (size_of value.width) refl l) in
+      (ap (λ (bytes : List ℕ). record (kept d m) { memory = bytes }) (bytes_of-written m value.bytes.items at (size_of value.width) fit value.sized (omega (arith, l, mem.0))) ∙ all.0, all.1)
 
 -- the bytes of an access, written by its pieces
 pub kept_written : (d : Data) (m bytes : List ℕ) (at size : ℕ) → IsMemory d.words m → AreBytes bytes → length bytes ≡ size → at + size ≤ 8 * d.words

@@ -1,13 +1,12 @@
 -- Blocks that begin in an irrevocable transaction, and a call that would make it irrevocable.
 use Rattle.std.proofs.Common.{◌≡◌, ℕ, ◌<◌, Bool, true, false, List, [], ◌∷◌, length, replicate, Option, None, if◌then◌else◌, refl, sym, ap, subst, ◌∙◌}
-use Rattle.norec_irrevocable.proofs.Common.{Begin, Code, ComesBy, Core, Data, Done, EndIrrevocable, HeldTurns, Mode, NoIrrevocable, Props, Refusal, RepliesHeld, State, TooDeep, after, after_unless, begun, came, came_restarted, cond-true, core_held, effect, entered, in_block, is_inside, kept, lt-ltb, may_go, mode_refusal, or_else, pushed, refusal, reply, reply_unless, stays_revocable, unless}
+use Rattle.norec_irrevocable.proofs.Common.{Answer, Begin, ComesBy, Core, Data, EndIrrevocable, HeldTurns, IsHeld, Mode, NoIrrevocable, Props, State, TooDeep, TurnEndsSo, after, begun, came, came_restarted, cond-true, cond_both, core_held, effect, entered, in_block, is_inside, kept, lt-ltb, may_go, mode_refusal, or_else, pushed, refusal, reply, serves, stays_revocable, unless}
+use Rattle.norec_irrevocable.specs.Moves.{HeldCallTurns}
+use Rattle.norec_irrevocable.proofs.Replies.PartsOfCalls.{come}
+use Rattle.norec_irrevocable.proofs.Replies.Refusals.{mode_ending, mode_stage}
 use Rattle.norec_data.specs.declared.end.CallEnd.TheVariants as ends
 use Rattle.norec_irrevocable.proofs.Replies.KeptStates.{begin_kept, mode_kept, open_kept}
 use Rattle.norec_irrevocable.proofs.Replies.HeldReplies.{room_kept}
-
-both_same : {X : Type 0} (b : Bool) (x : X) → (if b then x else x) ≡ x
-both_same true x = refl
-both_same false x = refl
 
 -- what a block that begins leaves of the fields
 pub record HasEntered (d : Data) (props : Props) (new : Data) : Type 0 where
@@ -31,7 +30,7 @@ module _ (d new : Data) (props : Props) (room : ℕ) (o : in_block d ≡ true) (
   begin_entered = record {
     held = refl;
     irrevocable = refl;
-    reply_is = sym (ap (λ (r : Option Refusal). reply_unless r (Code 5)) (begin_served (replicate d.words 0)));
+    reply_is = (serves d.frames.depth (kept d (replicate d.words 0)) (Begin props room) (begin_served (replicate d.words 0))).1;
     unfreed = refl;
     stays =
         ap core_held has.others
@@ -49,39 +48,29 @@ module _ (d new : Data) (props : Props) (room : ℕ) (o : in_block d ≡ true) (
   pub begin_comes : ComesBy d (λ m. after d.frames.depth (kept d m) (Begin props room)) (λ m. reply d.frames.depth (kept d m) (Begin props room)) (EndIrrevocable ends.Entered) new
   begin_comes m mem =
       let s : State = kept d m in
-      let opens : effect s (Begin props room) ≡ pushed s props = cond-true _ (entered s props) _ (open_kept d.frames.blocks d.arena d.frames.actions m ∙ o) ∙ both_same props.goes_irrevocable (pushed s props) in (
-        ap (λ (x : Data). kept x m) has.others
-            ∙ ((λ i. kept (record d { frames = record d.frames { blocks = has.blocks i; actions = has.actions i } }) m)
-            ∙ (sym opens ∙ sym (ap (λ (r : Option Refusal). after_unless r s (effect s (Begin props room))) (begin_served m)))),
-        sym (ap (λ (r : Option Refusal). reply_unless r (Code 5)) (begin_served m)),
-      )
+      let all = serves d.frames.depth s (Begin props room) (begin_served m) in
+      let opens : effect s (Begin props room) ≡ pushed s props =
+      cond-true _ (entered s props) _ (open_kept d.frames.blocks d.arena d.frames.actions m ∙ o) ∙ cond_both props.goes_irrevocable (pushed s props) (pushed s props) (λ (x : State). x ≡ pushed s props) (λ e. refl) (λ e. refl) in
+      (ap (λ (x : Data). kept x m) has.others ∙ ((λ i. kept (record d { frames = record d.frames { blocks = has.blocks i; actions = has.actions i } }) m) ∙ (sym opens ∙ all.0)), all.1)
 
 -- what it is already
-module _ (d new : Data) (room : ℕ) (is : new ≡ record d { spent = 0; entry = length d.log.rows }) (none : mode_refusal (in_block d) (stays_revocable d.frames.blocks) ≡ None) where
+module _ (d : Data) (room : ℕ) (h : IsHeld d) (none : mode_refusal (in_block d) (stays_revocable d.frames.blocks) ≡ None) where
   mode_served : (m : List ℕ) → refusal d.frames.depth (kept d m) (Mode room) ≡ None
   mode_served m = mode_kept d.frames.blocks d.arena d.frames.actions m d.frames.depth room ∙ none
 
-  abbrev come : Data
-  come = record d { spent = 0; entry = length d.log.rows }
-
-  replied : RepliesHeld (came (core_held d) (Mode room) false) (Mode room) Done (core_held come)
-  replied = record {
-    held = refl;
-    irrevocable = refl;
-    reply_is = sym (ap (λ (r : Option Refusal). reply_unless r Done) (mode_served (replicate d.words 0)));
-    unfreed = refl;
-    stays = (λ i. record (core_held come) { room = sym (room_kept d (Mode room)) i });
-    still = λ o. o;
+  pub mode_turn : HeldCallTurns d (Mode room) (EndIrrevocable ends.Done) (come d)
+  mode_turn = record {
+    sound = record { bounds = h.bounds; is_open = h.is_open; log = h.log; writes = h.writes; settled = h.settled; free = h.free; tries = h.tries };
+    proceeds = record {
+      held = refl;
+      irrevocable = refl;
+      reply_is = (serves d.frames.depth (kept d (replicate d.words 0)) (Mode room) (mode_served (replicate d.words 0))).1;
+      unfreed = refl;
+      stays = (λ i. record (core_held (come d)) { room = sym (room_kept d (Mode room)) i });
+      still = λ o. o;
+    };
+    comes = λ m mem. serves d.frames.depth (kept d m) (Mode room) (mode_served m);
+    stays = record { opens = λ o. o; log = λ o. refl; snapshot = refl };
+    order = sym (mode_stage d room);
+    ends = subst (λ (so : Option Answer). TurnEndsSo so (EndIrrevocable ends.Done) (come d)) (sym (mode_ending d room)) tt;
   }
-
-  comes : ComesBy d (λ m. after d.frames.depth (kept d m) (Mode room)) (λ m. reply d.frames.depth (kept d m) (Mode room)) (EndIrrevocable ends.Done) come
-  comes m mem = (
-    sym (ap (λ (r : Option Refusal). after_unless r (kept d m) (kept d m)) (mode_served m)),
-    sym (ap (λ (r : Option Refusal). reply_unless r Done) (mode_served m)),
-  )
-
-  pub mode_replies : HeldTurns (came (core_held d) (Mode room) false) (EndIrrevocable ends.Done) new
-  mode_replies = subst (λ (x : Data). HeldTurns (came (core_held d) (Mode room) false) (EndIrrevocable ends.Done) x) (sym is) replied
-
-  pub mode_comes : ComesBy d (λ m. after d.frames.depth (kept d m) (Mode room)) (λ m. reply d.frames.depth (kept d m) (Mode room)) (EndIrrevocable ends.Done) new
-  mode_comes = subst (λ (x : Data). ComesBy d (λ m. after d.frames.depth (kept d m) (Mode room)) (λ m. reply d.frames.depth (kept d m) (Mode room)) (EndIrrevocable ends.Done) x) (sym is) comes

@@ -1,25 +1,18 @@
 -- Replies in an irrevocable transaction that leave the engine as it was, but for the counts.
 use Rattle.std.proofs.Common.{◌≡◌, ℕ, ◌&&◌, not, Bool, true, false, List, length, replicate, Option, None, Some, unwrap_or, nat_lt, refl, sym, ap, ◌∙◌, if◌then◌else◌}
-use Rattle.norec_irrevocable.proofs.Common.{Begin, Call, CommitAction, Core, Data, IsMemory, Mode, Read, Refusal, Refused, RepliesHeld, Save, State, after, after_unless, anew_within, answer, arena_held, bytes_reply, came, core_held, effect, fit-zeros, in_block, irrevocable_room, kept, length-replicate, may_go, refusal, reply, reply_held, reply_unless, room_left, stands_for, stays_revocable}
+use Rattle.norec_irrevocable.proofs.Common.{Begin, Call, CommitAction, Core, Data, IsMemory, Mode, Read, Refusal, Refused, RepliesHeld, Save, State, anew_within, answer, arena_held, bytes_reply, came, core_held, fit-zeros, in_block, irrevocable_room, kept, length-replicate, may_go, refusal, reply_held, reply_unless, room_left, stands_for, stays_revocable}
 use Rattle.norec_core.proofs.Replies.RefusedCalls.{actions_kept, blocks_kept}
+use Rattle.norec_irrevocable.proofs.Replies.PartsOfCalls.{come}
+use Rattle.std.proofs.Math.Bool.{and-false}
 
 -- a memory of zeros
 pub zeros : (words : ℕ) → IsMemory words (replicate words 0)
 zeros words = (length-replicate words 0, fit-zeros words)
 
 -- an irrevocable transaction does not become so
-and_not : (a b : Bool) → (a && b && not true) ≡ false
-and_not true true = refl
-and_not true false = refl
-and_not false b = refl
-
-and_not_3 : (a b c : Bool) → (a && b && c && not true) ≡ false
-and_not_3 true b c = and_not b c
-and_not_3 false b c = refl
-
 pub goes_nowhere : (d : Data) (call : Call) → irrevocable_room (core_held d) call ≡ None
-goes_nowhere d (Begin props room) = ap (λ (b : Bool). if b then Some room else None) (and_not_3 props.goes_irrevocable (may_go d.frames.blocks props) (nat_lt (length d.frames.blocks) d.frames.depth))
-goes_nowhere d (Mode room) = ap (λ (b : Bool). if b then Some room else None) (and_not (in_block d) (not (stays_revocable d.frames.blocks)))
+goes_nowhere d (Begin props room) = ap (λ (b : Bool). if b then Some room else None) (and-false (props.goes_irrevocable && may_go d.frames.blocks props && nat_lt (length d.frames.blocks) d.frames.depth))
+goes_nowhere d (Mode room) = ap (λ (b : Bool). if b then Some room else None) (and-false (in_block d && not (stays_revocable d.frames.blocks)))
 goes_nowhere d call = refl
 
 -- so the room stays as a call comes
@@ -44,10 +37,7 @@ room_unspent c (CommitAction action) why = refl
 room_unspent c call why = refl
 
 module _ (d : Data) (call : Call) (why : Refusal) (refused : (m : List ℕ) → IsMemory d.words m → refusal d.frames.depth (kept d m) call ≡ Some why) where
-  abbrev come : Data
-  come = record d { spent = 0; entry = length d.log.rows }
-
-  pub denied : in_block d ≡ true → RepliesHeld (came (core_held d) call false) call (Refused why) (core_held come)
+  pub denied : in_block d ≡ true → RepliesHeld (came (core_held d) call false) call (Refused why) (core_held (come d))
   denied o =
       let mid : Core = came (core_held d) call false in
       let room : d.frames.room ≡ room_left mid call (Refused why) = sym (room_kept d call) ∙ sym (room_unspent mid call why) in
@@ -56,7 +46,7 @@ module _ (d : Data) (call : Call) (why : Refusal) (refused : (m : List ℕ) → 
         irrevocable = refl;
         reply_is = refused_so mid call why (refused (replicate d.words 0) (zeros d.words));
         unfreed = refl;
-        stays = (λ i. record (core_held come) {
+        stays = (λ i. record (core_held (come d)) {
           blocks = sym (blocks_kept mid call why) i;
           actions = sym (actions_kept mid call why) i;
           arena = sym (arena_left mid call why) i;
@@ -65,9 +55,3 @@ module _ (d : Data) (call : Call) (why : Refusal) (refused : (m : List ℕ) → 
         });
         still = λ is. is;
       }
-
-  pub denied_comes : (m : List ℕ) → IsMemory d.words m → (kept d m ≡ after d.frames.depth (kept d m) call) × (Refused why ≡ reply d.frames.depth (kept d m) call)
-  denied_comes m mem = (
-    sym (ap (λ (o : Option Refusal). after_unless o (kept d m) (effect (kept d m) call)) (refused m mem)),
-    sym (ap (λ (o : Option Refusal). reply_unless o (answer (kept d m) call)) (refused m mem)),
-  )

@@ -2,8 +2,7 @@
 use Rattle.std.proofs.Common.{◌≡◌, ℕ, suc, ◌+◌, ◌*◌, ◌&&◌, ◌||◌, not, nat_le, nat_lt, Bool, true, false, List, [], ◌∷◌, length, map, Some, if◌then◌else◌, refl, ap, ◌∙◌, arith}
 use Rattle.norec_irrevocable.proofs.Common.{Abort, Begin, Call, Copy, Copying, Frame, IsIrrevocable, IsMemory, Mode, NoAbort, NoIrrevocable, OutOfRange, Outside, Overlap, Props, State, TooDeep, access_of, access_refusal, begin_refusal, block_kept, bytes_of, copy_refusal, is_clear, is_inside, is_kept, is_open, keeps_any, keeps_innermost, keeps_revocable, length-bytes_of, lt-ltb, may_go, mode_refusal, or_else, refusal, source_is, state_kept, stays_revocable, target_is, unless}
 use Rattle.user_actions.specs.Actions.{Actions}
-use Rattle.norec_core.proofs.Engines.Machines.{refusal_of}
-use Rattle.norec_core.proofs.Engines.IrrevocableCalls.{or_none}
+use Rattle.norec_core.{proofs.Engines.Machines.refusal_of, proofs.Engines.IrrevocableCalls.or_none}
 
 -- ## Blocks
 
@@ -31,6 +30,9 @@ length-kept (b ∷ bs) = ap suc (length-kept bs)
 no_abort : (kept : Bool) → or_else (unless (not kept) NoAbort) (unless (not true) IsIrrevocable) ≡ Some (if kept then NoAbort else IsIrrevocable)
 no_abort true = refl
 no_abort false = refl
+
+pub many_bytes : (words : ℕ) (m : List ℕ) → IsMemory words m → length (bytes_of m) ≡ 8 * words
+many_bytes words m mem = omega (arith, length-bytes_of m, mem.0)
 
 module _ (blocks : List Frame) (arena : List ℕ) (actions : Actions) (m : List ℕ) where
   abbrev now : State
@@ -61,17 +63,14 @@ module _ (blocks : List Frame) (arena : List ℕ) (actions : Actions) (m : List 
         ∙ no_abort (is_kept blocks outer))
 
     module _ (words : ℕ) (mem : IsMemory words m) where
-      size : length (bytes_of m) ≡ 8 * words
-      size = (let len = length-bytes_of m in let n = mem.0 in omega arith)
-
       -- a read, a write or a fill
       pub access_kept : (call : Call) (at size : ℕ) → access_of call ≡ Some (at, size) → refusal depth now call ≡ access_refusal (is_inside blocks) words at size
       access_kept call at n is =
           refusal_of depth now call at n is
-          ∙ (λ i. or_else (unless (open_kept i) Outside) (unless (nat_le (at + n) (size i)) OutOfRange))
+          ∙ (λ i. or_else (unless (open_kept i) Outside) (unless (nat_le (at + n) (many_bytes words m mem i)) OutOfRange))
 
       pub copy_kept : (k : Copying) → refusal depth now (Copy k) ≡ copy_refusal (is_inside blocks) words (length arena) k
       copy_kept k =
-          let target = target_is now words k.pair k.to k.size size in
-          let source = source_is now words k.pair k.from k.size size in
+          let target = target_is now words k.pair k.to k.size (many_bytes words m mem) in
+          let source = source_is now words k.pair k.from k.size (many_bytes words m mem) in
           (λ i. or_else (unless (open_kept i) Outside) (or_else (target i) (or_else (source i) (unless (is_clear k) Overlap))))

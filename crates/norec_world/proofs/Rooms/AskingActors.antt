@@ -1,33 +1,20 @@
 -- A call goes to the engine of an actor, or memory is refused to it.
 pub use Rattle.run_rules.proofs.Tries.{no_begin}
+use Rattle.event_rules.proofs.Common.{Actor, Answer, AsksOf, Attempt, BacksIn, BeganIn, Begin, Begins, Call, Cells, Core, Current, HasPlace, HasRow, IsAsked, IsKept, IsPromised, IsSound, KeepsOthers, Kept, MAX_ACTORS, MayRunOn, NestsAs, NestsBy, NestsReady, Next, Props, Ready, Rows, Rules, Savepoint, Stage, Status, Step, Within, active_of, asked_at, begins_again, begun, came, cancels_in, cases_Bool, count_in, ends_in, in_transaction, irrevocable_room, is_begin, none-some, open_in, opened_by, others_same, outside, promised, reserved, reserved_least, row_is_of, row_open, row_same, row_shut, row_unfinished, same_Some, stage_of, stage_out, told_in, total, wanted_came, with_room, within}
 use Rattle.run_rules.proofs.StepCalls.{wants_none, places_for}
-use Rattle.tx_runs.proofs.OpenRooms.{again_none, begins_none, outside_current, reserved_least, reserved_most}
+use Rattle.tx_runs.proofs.OpenRooms.{again_none, begins_none, outside_current, reserved_most}
 use Rattle.std.proofs.Common.{◌≡◌, inl, inr, ℕ, zero, suc, ◌+◌, ◌/◌, ◌<◌, ◌≤◌, max, length, not, Bool, true, false, true≢false, List, [], append-nil, Result, Ok, Err, IfOk, OnErr, Option, None, Some, is_some, unwrap_or, refl, sym, ap, subst, ◌∙◌, arith, if◌then◌else◌}
-use Rattle.norec_core.specs.Moves.{IsCalled}
-use Rattle.world_rules.specs.ActionRoom.{BacksIn, BeganIn, NestsAs, NestsBy, NestsReady, opened_by}
-use Rattle.norec_core.specs.RestartingCalls.{arena_ahead}
-use Rattle.tx_runs.specs.OpenAttempts.{HasPlacesFor, LacksPlaces, Open, told_in}
+use Rattle.norec_core.{specs.Moves.IsCalled, specs.RestartingCalls.arena_ahead, proofs.Engines.RestartingCalls.ahead_of_it}
+use Rattle.tx_runs.specs.OpenAttempts.{HasPlacesFor, LacksPlaces, Open}
 use Rattle.tx_runs.specs.Savepoints.{AreSavepoints}
-use Rattle.tx_runs.specs.Tallies.{begins, outside}
-use Rattle.norec_core.proofs.Engines.RestartingCalls.{ahead_of_it}
-use Rattle.world_rules.specs.LocalWork.{HasUsedUp}
-use Rattle.world_rules.specs.Records.{Asks as AsksOf}
-use Rattle.event_rules.proofs.Common.{Actor, Answer, Attempt, Begin, Begins, Call, Cells, Core, Current, HasRow, IsAsked, IsPromised, IsSound, KeepsOthers, MAX_ACTORS, MayRunOn, Next, Props, Rows, Rules, Savepoint, Stage, Step, Within, active_of, begins_again, begun, came, cancels_in, cases_Bool, count_in, ends_in, in_transaction, irrevocable_room, is_begin, none-some, open_in, promised, reserved, same_Some, stage_of, total, with_room, within}
-use Rattle.world_rules.specs.ActionRoom.{HasPlace, IsRefused}
-use Rattle.world_rules.proofs.Common.{IsKept}
-use Rattle.world_rules.specs.Sound.{IsUnasked}
-use Rattle.tx_attempts.specs.Kept.{Kept}
+use Rattle.tx_runs.specs.Tallies.{begins}
+use Rattle.world_rules.{specs.LocalWork.HasUsedUp, specs.ActionRoom.IsRefused, specs.Sound.IsUnasked}
 use Rattle.run_rules.proofs.IrrevocableCalls.{asks_no_room}
-use Rattle.world_rules.specs.declared.actor.Status.TheVariants.{Ready}
-use Rattle.world_rules.specs.declared.actor.Status.{Status}
 use Rattle.norec_world.proofs.Common.{ComesInto, next_in}
-use Rattle.event_rules.proofs.Engines.SoundSteps.{rests}
-use Rattle.norec_world.proofs.Rooms.EngineCalls.{called_acting}
-use Rattle.event_rules.proofs.Rooms.ActionRoom.{gave_acting}
-use Rattle.event_rules.proofs.Rooms.CallRoom.{backed_came, promised_came, used_of_call, wanted_came}
-use Rattle.norec_world.proofs.Rooms.EngineCalls.{used_of_room}
-use Rattle.event_rules.proofs.Rooms.HeldRoom.{came_room}
-use Rattle.world_rules.proofs.Tries.Stages.{asked_at, others_same, row_is_of, row_open, row_same, row_shut, row_unfinished, stage_out}
+use Rattle.event_rules.{proofs.Engines.SoundSteps.rests, proofs.Rooms.ActionRoom.gave_acting}
+use Rattle.norec_world.proofs.Rooms.EngineCalls.{called_acting, used_of_call, used_of_room}
+use Rattle.run_rules.proofs.CallRooms.{backed_came, promised_came}
+use Rattle.run_rules.proofs.HeldRooms.{came_room, held_as}
 
 pub not_within : (c : Current) → ((o : Open) → c ≡ Within o → ⊥) → open_in (stage_of c) ≡ None
 not_within (Within o) not = absurd (not o refl)
@@ -165,7 +152,7 @@ module _ {P : Type 0} {rules : Rules P} {cells : Cells} {r : Rows} {a : Actor P}
         (λ can. places.again (length a.engine.arena) (ahead_of_it a.engine call can))
         (λ x f. places_for call (total a.engine.actions) o.ends o'.ends (let p = sound.acts.places o.row here in omega arith) ends places.ends)
         (λ x f. places.cancels) (λ x f. absurd (cc))
-        (came_room a.engine call false a (New e) sound.acts.room (omega arith) (omega arith)
+        (came_room a.engine call false (ends_in a.run.current) (cancels_in a.run.current) o'.ends o'.cancels (λ held. sound.acts.room (held_as a.engine held)) (omega arith) (omega arith)
         (λ some. (let n = ap (λ (b : Bool). if b then total a.engine.actions else 0) inside in ((let x = places.ahead_ends some in omega arith), (let x = places.ahead_cancels some in omega arith)))))
         (λ x f. subst (HasPlace (came a.engine call false)) (same_Some _ _ f) place_within) (λ x f. absurd (cc)) (backed_came a.engine call false) (λ shut. absurd (true≢false (sym inside ∙ shut))) result comes
 
@@ -251,7 +238,7 @@ module _ {P : Type 0} {rules : Rules P} {cells : Cells} {r : Rows} {a : Actor P}
           (λ x f. absurd (none-some x (sym none ∙ f))) (λ x f. absurd (none-some x (sym none ∙ f))) (subst (NestsBy call) (sym (outside_current a.run.current out_outside)) tt)
           sound.acts.began (λ can. subst (BacksIn (length a.engine.arena) (total a.engine.actions)) (sym (outside_current a.run.current out_outside)) tt)
           (λ x f. absurd (none-some x (sym none ∙ f))) (λ x f. absurd (none-some x (sym none ∙ f))) (λ x f. absurd (none-some x (sym (rests sound ready).nothing ∙ f)))
-          (came_room a.engine call false a Same sound.acts.room (omega arith) (omega arith) (λ some. absurd (let wants = wants_none a.engine call other shut_outside in omega arith)))
+          (came_room a.engine call false (ends_in a.run.current) (cancels_in a.run.current) (ends_in a.run.current) (cancels_in a.run.current) (λ held. sound.acts.room (held_as a.engine held)) (omega arith) (omega arith) (λ some. absurd (let wants = wants_none a.engine call other shut_outside in omega arith)))
           (λ x f. absurd (none-some x (sym none ∙ f))) (λ x f. absurd (none-some x (sym (rests sound ready).nothing ∙ f))) (backed_came a.engine call false) (λ over. (let s = sound.tied.settled.closed shut_outside in (s.2, s.3))) result comes
 
   -- a begin, whose attempt has the room that it asks for
@@ -287,7 +274,7 @@ module _ {P : Type 0} {rules : Rules P} {cells : Cells} {r : Rows} {a : Actor P}
         let same = ap (λ (b : Bool). if b then total a.engine.actions else 0) shut_outside in
         gave_acting Begun (came a.engine (Begin props room) a.run.again) (Begin props room) false shut_outside refl refl (λ x f. absurd (cc)) (λ x f. absurd (cc)) (let n = ap (λ (y : Attempt). y.calls.room) row in omega arith) tt (λ x f. absurd (cc)) (λ x f abort. absurd (cc))
         (λ x f. (let same = sym (same_Some _ _ f) ∙ row in (ap (λ (y : Attempt). y.ran) same, ap (λ (y : Attempt). y.restarts) same, ap (λ (y : Attempt). y.calls.list) same)))
-        (came_room a.engine (Begin props room) a.run.again a Begun sound.acts.room (let none_ends = ap ends_in (outside_current a.run.current out_outside) in omega arith) (let none_cancels = ap cancels_in (outside_current a.run.current out_outside) in omega arith) (λ some. (omega arith, omega arith)))
+        (came_room a.engine (Begin props room) a.run.again (ends_in a.run.current) (cancels_in a.run.current) o.ends o.cancels (λ held. sound.acts.room (held_as a.engine held)) (let none_ends = ap ends_in (outside_current a.run.current out_outside) in omega arith) (let none_cancels = ap cancels_in (outside_current a.run.current out_outside) in omega arith) (λ some. (omega arith, omega arith)))
         (λ x f. absurd (cc)) (λ x f. ap (λ (y : Attempt). y.calls.room) (sym (same_Some _ _ f) ∙ row) ∙ sym (wanted_came a.engine (Begin props room) a.run.again))
         (backed_came a.engine (Begin props room) a.run.again) comes.settled what comes.proceeds (λ takes may. tt) (λ over. (let s = sound.tied.settled.closed shut_outside in (s.2, s.3))) (λ step is. (refl, refl))
 

@@ -1,23 +1,15 @@
 -- A call goes to the engine: what its result tells leaves room for what comes of it, and where memory is refused, what was asked for is used up.
-use Rattle.std.proofs.Common.{◌≡◌, ◌&&◌, not, nat_lt, ℕ, ◌+◌, ◌<◌, ◌≤◌, Bool, true, false, [], length, None, Some, refl, sym, ap, ◌∙◌, inl, inr, arith, true≢false, Result, Ok, Err, IfOk, OnErr, Option, zero, suc, if◌then◌else◌, unwrap_or}
-use Rattle.std.proofs.lemmas.Bool.{and_parts}
-use Rattle.std.proofs.Math.Bool.{and-true}
+use Rattle.std.proofs.Common.{◌≡◌, ◌&&◌, not, nat_lt, ℕ, ◌+◌, ◌-◌, ◌<◌, ◌≤◌, Bool, true, false, [], length, None, Some, refl, sym, ap, ◌∙◌, inl, inr, arith, true≢false, Result, Ok, Err, IfOk, OnErr, Option, zero, suc, if◌then◌else◌, unwrap_or}
+use Rattle.event_rules.proofs.Common.{Actor, Answer, Answers, Asks, Attempt, BacksIn, BeganIn, Call, Core, Current, HasPlace, HasRoomFor, HasRow, IsAtOnce, IsPromised, IsSettled, MayRunOn, NestsBy, Next, Proceeds, Ready, StartsEmpty, Step, Within, active_of, asked, asked_from, came, came_restarted, cancels_in, counted, ends_in, in_transaction, irrevocable_room, is_abort, is_begin, may_go_back, not_at_once, open_in, pending_of, promised, row_open, same_Some, stage_at, stage_of, told_in, total, wanted}
 use Rattle.norec_core.specs.Core.{is_within}
-use Rattle.norec_core.specs.RestartingCalls.{can_restart, may_validate, arena_ahead}
-use Rattle.norec_core.proofs.Engines.RestartingCalls.{idle_so, ahead_revocable}
-use Rattle.world_rules.specs.ActionRoom.{may_go_back, BacksIn, BeganIn, NestsBy, StartsEmpty, counted}
-use Rattle.event_rules.proofs.Common.{Answer, Answers, Asks, Call, Core, IsAtOnce, IsSettled, Next, Proceeds, Step, asked, asked_from, in_transaction, total, Actor, Attempt, Current, HasRoomFor, HasRow, MayRunOn, Within, active_of, came, cancels_in, ends_in, is_abort, is_begin, pending_of, stage_of, wanted, irrevocable_room, open_in, promised, same_Some}
-use Rattle.norec_core.specs.Order.{stage_at}
-use Rattle.world_rules.specs.ActionRoom.{HasPlace}
+use Rattle.norec_core.specs.RestartingCalls.{can_restart, arena_ahead}
+use Rattle.norec_core.specs.Proceeds.{MayStarve}
 use Rattle.norec_core.proofs.Replies.ActionCounts.{registers}
-use Rattle.run_rules.proofs.IrrevocableCalls.{asks_no_room}
-use Rattle.tx_runs.proofs.OpenRooms.{promised_held}
+use Rattle.run_rules.proofs.UsedRooms.{lacks_here, starves_here}
 use Rattle.norec_world.proofs.Common.{ComesInto, next_in}
-use Rattle.world_rules.proofs.Tries.Stages.{row_open}
-use Rattle.norec_core.proofs.Engines.KeptFields.{came_restarted}
-use Rattle.tx_runs.specs.OpenAttempts.{told_in, LacksPlaces, Open}
-use Rattle.event_rules.proofs.Rooms.HeldRoom.{held_as}
-use Rattle.event_rules.proofs.Engines.RestartedEngines.{may_inside, not_at_once, not_not, within_inside}
+use Rattle.tx_runs.specs.OpenAttempts.{LacksPlaces, Open}
+use Rattle.run_rules.proofs.HeldRooms.{held_as}
+use Rattle.run_rules.proofs.RestartedEngines.{may_inside, restarts_by}
 use Rattle.run_rules.proofs.StepCalls.{gave_plainly, starves_shut}
 use Rattle.world_rules.specs.LocalWork.{HasUsedUp}
 use Rattle.event_rules.proofs.Rooms.ActionRoom.{TakesRoom, gave_acting}
@@ -26,17 +18,7 @@ use Rattle.event_rules.proofs.Rooms.ActionRoom.{TakesRoom, gave_acting}
 
 -- so by one that waits for a step the innermost block may go back, if it may at all
 pub waits_restarts : (old new : Core) (call : Call) (again : Bool) (step : Step) → new.stage ≡ stage_at old call again → new.waits ≡ asked new → new.waits ≡ Some step → may_go_back old ≡ true → can_restart old call ≡ true
-waits_restarts old new call again step stage asks waits may = by_call (may_validate call) refl
-  where
-    by_call : (v : Bool) → may_validate call ≡ v → can_restart old call ≡ true
-    by_call true v =
-        ap (λ (x : Bool). nat_lt old.restarted old.restarts && (not old.irrevocable && (is_within old.blocks && x))) v
-        ∙ (ap (λ (x : Bool). nat_lt old.restarted old.restarts && (not old.irrevocable && x)) (and-true (is_within old.blocks)) ∙ may)
-    by_call false v =
-        let two = (and_parts (nat_lt old.restarted old.restarts) (not old.irrevocable && is_within old.blocks) may).1 in
-        let last = and_parts (not old.irrevocable) (is_within old.blocks) two in
-        let idle = idle_so old again (not_not old.irrevocable last.0) (within_inside old.blocks last.1) last.1 call v in
-        absurd (let both : None ≡ Some step = sym (ap (asked_from new) (stage ∙ idle)) ∙ (sym asks ∙ waits) in cc)
+waits_restarts old new call again step stage asks waits may = restarts_by old call again may (λ idle. (let both : None ≡ Some step = sym (ap (asked_from new) (stage ∙ idle)) ∙ (sym asks ∙ waits) in cc))
 
 -- ## A call goes to the engine
 
@@ -69,36 +51,20 @@ starves_begin c new call answer s (Err x) m = λ shut. starves_shut c call s shu
 
 -- ## Where memory is wanted in an irrevocable transaction
 
-none_left : (n : ℕ) → (0 < n → ⊥) → n ≡ 0
-none_left zero never = refl
-none_left (suc n) never = absurd (never (omega arith))
+-- an open attempt that wants memory for the call itself has used up what it asked for
+pub used_of_call : {P : Type 0} (a : Actor P) (call : Call) → IsPromised a Ready → MayStarve a.engine call → HasUsedUp a
+used_of_call a call backed starves h row e = starves_here a.engine call h row.calls.room (backed row e) starves
 
--- an open attempt that has no room for the call has used up what it asked for
+-- and so has one that has no room for the call
 pub used_of_room : {P : Type 0} (a : Actor P) (call : Call) (o : Open) → a.run.current ≡ Within o → in_transaction a.engine ≡ true → HasRoomFor a.engine a → length o.points + o.row.calls.room ≤ o.deep → o.row.calls.room ≤ promised a.engine
     → LacksPlaces call (total a.engine.actions) (unwrap_or (irrevocable_room a.engine call) 0) (arena_ahead a.engine call) o → HasUsedUp a
-used_of_room {P} a call o is inside room nests few lacks h row e = (let none = by_want lacks in let s = same in omega arith)
-  where
-    same : row.calls.room ≡ o.row.calls.room
-    same = ap (λ (x : Attempt). x.calls.room) (same_Some _ _ (sym e ∙ ap (λ (c : Current). open_in (stage_of c)) is))
-
-    all : counted a.engine ≡ total a.engine.actions
-    all = ap (λ (b : Bool). if b then total a.engine.actions else 0) inside
-
-    none_by : a.engine.room ≡ 0 → o.row.calls.room ≡ 0
-    none_by none = (let most = promised_held a.engine h in omega arith)
-
-    by_want : LacksPlaces call (total a.engine.actions) (unwrap_or (irrevocable_room a.engine call) 0) (arena_ahead a.engine call) o → o.row.calls.room ≡ 0
-    by_want (inl full) = full
-    by_want (inr (inl deep)) = (let l = deep.1 in omega arith)
-    by_want (inr (inr (inl ends))) =
-        let most = ends.1 in
-        let count = all in
-        let there = ap ends_in is in
-        none_by (none_left a.engine.room (λ (some : 0 < a.engine.room). (let both = room (held_as a.engine h) some in let l = both.0 in omega arith)))
-    by_want (inr (inr (inr (inl cancels)))) =
-        let most = cancels.1 in
-        let count = all in
-        let there = ap cancels_in is in
-        none_by (none_left a.engine.room (λ (some : 0 < a.engine.room). (let both = room (held_as a.engine h) some in let l = both.1 in omega arith)))
-    by_want (inr (inr (inr (inr (inl ahead))))) = absurd (let none = ap (λ (x : Option ℕ). unwrap_or x 0) (asks_no_room a.engine call h) in omega arith)
-    by_want (inr (inr (inr (inr (inr again))))) = absurd (true≢false (sym h ∙ ahead_revocable a.engine call again.0 again.1))
+used_of_room a call o is inside room nests few lacks h row e =
+    ap (λ (x : Attempt). x.calls.room) (same_Some _ _ (sym e ∙ ap (λ (c : Current). open_in (stage_of c)) is))
+    ∙ lacks_here a.engine call h o few
+    (λ some.
+    (let both = room (held_as a.engine h) some in
+    let n : counted a.engine ≡ total a.engine.actions = ap (λ (b : Bool). if b then total a.engine.actions else 0) inside in
+    let ends = ap ends_in is in
+    let cancels = ap cancels_in is in
+    ((let x = both.0 in omega arith), (let x = both.1 in omega arith))))
+    (λ some. nests) lacks

@@ -3,8 +3,7 @@ use Rattle.std.proofs.Common.{◌≡◌, ℕ, ◌+◌, ◌≤◌, Bool, false, �
 use Rattle.report_rules.proofs.Common.{All-append, All-nil, AreHeld, Attempt, Between, Did, Done, Gating, IsPlaced, IsRunOf, Listing, Numbered, Thread, Unfinished, View, Words, after_try, alone, attempts_in, begins_at, bytes_at, code_of, count_holding, depth_of, first_of, is_holding, is_unfinished, memory_at, of_run, one_where, thread_rules}
 use Rattle.tx_attempts.specs.declared.attempt.Outcome.{Outcome}
 use Rattle.tx_history.specs.declared.history.History.{History}
-use Rattle.report_rules.proofs.Passes.Courses.{at_most}
-use Rattle.report_rules.proofs.Histories.ThreadAttempts.{all_of}
+use Rattle.report_rules.{proofs.Passes.Courses.at_most, proofs.Histories.ThreadAttempts.all_of}
 
 holding_both : (h : History) (xs ys : List Attempt) → count_holding h (xs ++ ys) ≡ count_holding h xs + count_holding h ys
 holding_both h [] ys = (let e : count_holding h ys ≡ 0 + count_holding h ys = omega arith in e)

@@ -2,8 +2,7 @@
 use Rattle.std.proofs.Common.{ℕ, zero, suc, ◌+◌, ◌<◌, ◌≤◌, All, List, [], ◌∷◌, length, Some, sym, subst, arith}
 use Rattle.report_rules.proofs.Common.{All-append, All-cons, All-head, All-nil, All-tail, AreLimited, AreOwn, Attempt, Gating, HasArenaWidth, IsCourse, IsLimited, IsLimitedListing, IsMemorySize, Listing, MAX_ARENA, MAX_RETRIES, MayRestart, Ran, Report, RestartAtMost, Version, by_number, commits_of, first_of, memory_at, of_thread, there_is, thread_limit, thread_rules, threads_of, version_of}
 use Rattle.std.proofs.lemmas.List.{length-replicate}
-use Rattle.tx_history.proofs.ToldRestarts.{may_tell}
-use Rattle.tx_history.proofs.Runs.LimitedRuns.{IsOwn, own_run}
+use Rattle.tx_history.{proofs.ToldRestarts.may_tell, proofs.Runs.LimitedRuns.IsOwn, proofs.Runs.LimitedRuns.own_run}
 use Rattle.report_rules.proofs.Histories.ScriptWidths.{script_widths}
 
 -- what is so of each thread's attempts is so of all

@@ -5,9 +5,7 @@ use Rattle.script_program.specs.declared.instruction.ArenaWidth.{ArenaWidth}
 use Rattle.script_program.specs.declared.instruction.ArenaWidth.TheVariants.{One, Two, Four, Eight}
 use Rattle.script_program.specs.declared.instruction.Instruction.TheVariants as code
 use Rattle.script_program.specs.Instructions.{width_of}
-use Rattle.script_vm.specs.Registers.{datum}
-use Rattle.script_vm.specs.Threads.{depth_of}
-use Rattle.script_vm.specs.BlockLaws.{none_is_no_call, same_call}
+use Rattle.script_vm.{specs.Registers.datum, specs.Threads.depth_of, specs.BlockLaws.none_is_no_call, specs.BlockLaws.same_call}
 
 arena_width : (w : ArenaWidth) → IsArenaWidth (width_of w)
 arena_width One = inl refl

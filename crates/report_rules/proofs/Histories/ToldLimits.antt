@@ -1,9 +1,8 @@
 -- Programs are within the limits of the version that tells of them.
 use Rattle.std.proofs.Common.{◌≡◌, ◌≢◌, ◌⊎◌, ◌==◌, inl, inr, nat_le, ◌&&◌, ◌∙◌, ℕ, suc, ◌<◌, ◌≤◌, Bool, true, false, if◌then◌else◌, length, refl, sym, true≢false, ap, subst, arith, eqb-true, leb-true}
 use Rattle.report_rules.proofs.Common.{IsLimitedListing, IsMemorySize, Listing, MAX_ACTORS, MAX_ARENA, MayRestart, One, Three, Two, USUAL_DEPTH, Version, both_true, depth_from, depth_of, is_early, lt-leb, ne_eqb, opening_of, thread_limit, threads_of, version_of}
-use Rattle.itm_types.specs.Limits.{AreWithin}
+use Rattle.itm_types.{specs.Limits.AreWithin, specs.declared.limits.Depth.Depth}
 use Rattle.script_program.specs.Sizes.{IsSize}
-use Rattle.itm_types.specs.declared.limits.Depth.{Depth}
 use Rattle.tx_history.specs.declared.history.TheConstants.{EARLY_ACTORS, EARLY_MEMORY}
 use Rattle.tx_history.proofs.SameDepths.{near_is, same_depth}
 

@@ -1,14 +1,11 @@
 -- A whole run, once all passes are joined and the words are closed.
 use Rattle.std.proofs.Common.{inl, inr, ◌≡◌, ℕ, zero, suc, ◌*◌, ◌<◌, ◌≤◌, nat_lt, All, List, [], ◌++◌, get_or, length, Some, slice_get, sym, ap, subst, ◌∙◌, arith, lt-ltb, le-ltb}
 use Rattle.report_rules.proofs.Common.{AreDisturbed, AreFew, AreLeft, AreOutrun, Attempt, Done, End, Gathers, Gating, Instruction, IsAlone, IsCourse, IsLegal, IsPlaced, Listing, Ran, Report, View, WasRun, Words, after, attempts_in, by_number, bytes_at, bytes_of, cases_lt, code_of, count_at, count_committed, count_holding, depth_of, ends_in, memory_after, memory_at, of_thread, one_where, opening_of, outrun_later, positions, thread_rules, threads_of, times, version_of}
-use Rattle.shared_words.specs.Views.{opening}
-use Rattle.std.proofs.Math.Seq.{take-length}
-use Rattle.std.proofs.lemmas.Option.{get_or_from_slice_get}
-use Rattle.shared_words.specs.Good.{EndsWith}
+use Rattle.shared_words.{specs.Views.opening, specs.Good.EndsWith, proofs.PositionTotals.count_is}
+use Rattle.std.{proofs.Math.Seq.take-length, proofs.lemmas.Option.get_or_from_slice_get}
 use Rattle.report_rules.proofs.Histories.CommitPositions.{below_limit, committed_count, count_times, memory_is}
 use Rattle.report_rules.proofs.Passes.Courses.{course_still}
 use Rattle.report_rules.proofs.Histories.LegalRuns.{all_free, all_placed}
-use Rattle.shared_words.proofs.PositionTotals.{count_is}
 use Rattle.report_rules.proofs.Histories.ThreadAttempts.{all_disturbed, all_few, all_left, all_outrun, all_own, all_stand, ends_count}
 
 module _ (words : Words) (p : Listing) (gate : Gating) (r : Report) (start now : View) (all : List Done) (opens : start ≡ opening start.base) (from : bytes_of start.base ≡ r.history.memory) (begun : r.history.memory ≡ opening_of p) (gathered : Gathers words start p gate now all) (closed : EndsWith now r.history.clock r.history.bytes) (attempts : r.history.attempts ≡ attempts_in all) (ends_are : r.ends.items ≡ ends_in all) (version : r.history.version ≡ version_of p) (allows : depth_of (version_of p) ≡ p.limits.depth) where

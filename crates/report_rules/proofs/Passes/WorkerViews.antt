@@ -2,12 +2,10 @@
 use Rattle.std.proofs.Common.{◌≡◌, ⊎_elim, inl, inr, ℕ, Bool, false, true≢false, List, [], ◌∷◌, ◌++◌, length, arith, Option, None, Some, Result, Ok, Err, IfOk, refl, sym, ap, subst, ◌∙◌, append_assoc, append-nil}
 use Rattle.report_rules.proofs.Common.{AreFew, AreHeld, AreLeft, AreSince, Attempt, Between, Did, Done, End, EndsAs, EndsBy, Finished, Gating, GaveUp, HasJoined, IsCourse, IsFinished, IsRunOf, Joined, LiesIn, Listing, MadeCalls, MayBegin, NoMemory, RestartAtMost, Standing, StartsWith, Thread, View, WasRun, Words, Worked, Works, after_try, alone, begins_at, bytes_at, call_number, code_of, commits_known, course_of, first_of, is_held, outrun_later, positions, thread_rules, view_left, view_of}
 use Rattle.norec_core.specs.Core.{Core}
-use Rattle.shared_words.specs.declared.pass.Pass.{Pass}
-use Rattle.shared_words.proofs.ListPlaces.{starts_self}
+use Rattle.shared_words.{specs.declared.pass.Pass.Pass, proofs.ListPlaces.starts_self}
 use Rattle.worker_rules.specs.Progress.{Course}
 use Rattle.worker_rules.proofs.Runs.LaterCommits.{IsLater, all_left_in, bytes_in, seen_in}
-use Rattle.report_rules.proofs.Rows.{ends_where}
-use Rattle.report_rules.proofs.Passes.Courses.{at_most, course_still}
+use Rattle.report_rules.{proofs.Rows.ends_where, proofs.Passes.Courses.at_most, proofs.Passes.Courses.course_still}
 
 -- ## A later view
 

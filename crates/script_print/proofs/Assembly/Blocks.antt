@@ -1,7 +1,7 @@
 -- Lines of a section keep what is kept of the lines so far.
 use Rattle.std.proofs.Common.{◌≡◌, ℕ, ◌<◌, ◌≤◌, Bool, true, false, nat_eq, ◌||◌, leb, ltb, List, ◌∷◌, length, Option, Some, Ok, refl, sym, ap, ◌∙◌, subst, inl, inr}
 use Rattle.script_print.proofs.Common.{Beginning, Group, IfOk, Instruction, MAX_INSTRUCTIONS, MAX_LEVELS, Sections, State, added, again, begins, cases_Bool, choice_if, counted, counted_again, ends, ends_block, ends_group, ends_repeat, expanded, fault, in_second_part, innermost, instruction_total, leb-false, ltb-false, opened, outer, place_of, repeated, repeats, run_code, second_part, stands_never, then_if, turns_group, within_never, without_innermost}
-use Rattle.script_fields.specs.declared.fault.AsmKind.TheVariants as faults
+use Rattle.script_fields.specs.declared.fault.FaultKind.TheVariants as faults
 use Rattle.script_asm.specs.declared.groups.Group.TheVariants as groups
 use Rattle.script_program.specs.declared.instruction.Instruction.TheVariants as code
 use Rattle.script_print.proofs.Printable.{IsSaid, open_after}

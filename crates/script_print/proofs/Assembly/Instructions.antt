@@ -1,21 +1,21 @@
 -- Instructions that were read are some that a line can say.
 use Rattle.std.proofs.Common.{ℕ, List, Result, Ok}
-use Rattle.script_print.proofs.Common.{AsmKind, Entry, IfOk, Instruction, Mnemonic, abort_scope, after_if, bind_if, commit_action, control_code, entry_code, instruction_of, none, one_place, one_register, only_mode, place_register, register_literal, register_number, register_place, register_props, three_places, three_registers, two_places, two_registers, undo_action}
+use Rattle.script_print.proofs.Common.{FaultKind, Entry, IfOk, Instruction, Mnemonic, abort_scope, after_if, bind_if, commit_action, control_code, entry_code, instruction_of, none, one_place, one_register, only_mode, place_register, register_literal, register_number, register_place, register_props, three_places, three_registers, two_places, two_registers, undo_action}
 use Rattle.itm_entries.specs.declared.entry.Control.{Control}
 use Rattle.itm_entries.specs.declared.entry.Control.TheVariants as controls
 use Rattle.itm_entries.specs.declared.entry.Entry.TheVariants as entries
 use Rattle.script_fields.specs.Operands.{◌>>=◌}
 use Rattle.script_program.specs.declared.instruction.Instruction.TheVariants as code
-use Rattle.script_asm.specs.declared.words.Mnemonic.TheVariants as mnemonics
+use Rattle.script_asm.specs.declared.mnemonics.Mnemonic.TheVariants as mnemonics
 use Rattle.script_print.proofs.Printable.{IsSaid}
 use Rattle.script_print.proofs.Assembly.Operands.{register_number_if, register_literal_if, register_place_if, place_register_if, one_place_if, two_places_if, three_places_if, commit_action_if, undo_action_if}
 
 -- an instruction of operands that were read
-made : {A : Type 0} (P : A → Type 0) (r : Result A AsmKind) (f : A → Instruction) → IfOk r P → ((x : A) → P x → IsSaid (f x)) → IfOk (r >>= λ x. Ok (f x)) IsSaid
+made : {A : Type 0} (P : A → Type 0) (r : Result A FaultKind) (f : A → Instruction) → IfOk r P → ((x : A) → P x → IsSaid (f x)) → IfOk (r >>= λ x. Ok (f x)) IsSaid
 made P r f h k = bind_if P IsSaid r (λ x. Ok (f x)) h k
 
 -- one of any operands
-of_any : {A : Type 0} (r : Result A AsmKind) (f : A → Instruction) → ((x : A) → IsSaid (f x)) → IfOk (r >>= λ x. Ok (f x)) IsSaid
+of_any : {A : Type 0} (r : Result A FaultKind) (f : A → Instruction) → ((x : A) → IsSaid (f x)) → IfOk (r >>= λ x. Ok (f x)) IsSaid
 of_any r f h = after_if IsSaid r (λ x. Ok (f x)) h
 
 control_said : (c : Control) (fs : List (List ℕ)) → IfOk (control_code c fs) IsSaid

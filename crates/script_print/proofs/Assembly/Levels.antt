@@ -9,9 +9,7 @@ use Rattle.script_print.proofs.Printable.{pushed, open_after, then_after, open_a
 -- one more within those of gs: a repeat is not told by the code
 abbrev pub with_kind : Group → List Group → List Group
 with_kind (groups.Repeat start times) gs = gs
-with_kind groups.Block gs = groups.Block ∷ gs
-with_kind groups.First gs = groups.First ∷ gs
-with_kind groups.Second gs = groups.Second ∷ gs
+with_kind g gs = g ∷ gs
 
 -- the blocks and groups that are open, without the repeats
 abbrev pub kinds : List Beginning → List Group
@@ -60,35 +58,23 @@ open_repeat gs xs (suc n) e = open_then gs gs xs (repeat n xs) e ∙ open_repeat
 -- what is kept of one that is open, where gs are the kinds around it and rest is what is kept of those
 abbrev StandsFrom : List Instruction → ℕ → Group → List Group → (ℕ → Type 0) → Type 0
 StandsFrom code limit (groups.Repeat start times) gs rest = (start ≤ limit) × (open_after_all [] (take start code) ≡ Some gs) × rest start
-StandsFrom code limit groups.Block gs rest = rest limit
-StandsFrom code limit groups.First gs rest = rest limit
-StandsFrom code limit groups.Second gs rest = rest limit
+StandsFrom code limit g gs rest = rest limit
 
 -- each repeat began within the code before the limit, and those around it no later, with just what is around it open
 abbrev pub Starts : List Instruction → ℕ → List Beginning → Type 0
 Starts code limit [] = ⊤
 Starts code limit (b ∷ more) = StandsFrom code limit b.group (kinds more) (λ n. Starts code n more)
 
-stands_later : (code : List Instruction) (g : Group) (gs : List Group) (low high : ℕ) (rest : ℕ → Type 0) → low ≤ high → ((m n : ℕ) → m ≤ n → rest m → rest n) → StandsFrom code low g gs rest → StandsFrom code high g gs rest
-stands_later code (groups.Repeat start times) gs low high rest h f s = (omega arith, s.1, s.2)
-stands_later code g gs low high rest h f s = f low high h s
+stands_on : (c d : List Instruction) (g : Group) (gs : List Group) (low high : ℕ) (rest more : ℕ → Type 0) → low ≤ high → ((n : ℕ) → n ≤ low → take n c ≡ take n d) → ((m n : ℕ) → m ≤ low → m ≤ n → rest m → more n)
+    → StandsFrom c low g gs rest → StandsFrom d high g gs more
+stands_on c d (groups.Repeat start times) gs low high rest more h same f s = (omega arith, ap (open_after_all []) (sym (same start s.0)) ∙ s.1, f start start s.0 (omega arith) s.2)
+stands_on c d g gs low high rest more h same f s = f low high (omega arith) h s
 
--- a later limit
-starts_later : (code : List Instruction) (ls : List Beginning) (low high : ℕ) → low ≤ high → Starts code low ls → Starts code high ls
-starts_later code [] low high h s = tt
-starts_later code (b ∷ more) low high h s = stands_later code b.group (kinds more) low high (λ n. Starts code n more) h (starts_later code more) s
-
-stands_again : (c d : List Instruction) (g : Group) (gs : List Group) (limit : ℕ) (rest more : ℕ → Type 0) → ((n : ℕ) → n ≤ limit → take n c ≡ take n d) → ((n : ℕ) → n ≤ limit → rest n → more n)
-    → StandsFrom c limit g gs rest → StandsFrom d limit g gs more
-stands_again c d (groups.Repeat start times) gs limit rest more same f s = (s.0, ap (open_after_all []) (sym (same start s.0)) ∙ s.1, f start s.0 s.2)
-stands_again c d g gs limit rest more same f s = f limit (omega arith) s
-
--- other code that begins alike up to the limit
-starts_again : (c d : List Instruction) (ls : List Beginning) (limit : ℕ) → ((n : ℕ) → n ≤ limit → take n c ≡ take n d) → Starts c limit ls → Starts d limit ls
-starts_again c d [] limit same s = tt
-starts_again c d (b ∷ more) limit same s =
-    stands_again c d b.group (kinds more) limit (λ n. Starts c n more) (λ n. Starts d n more) same
-    (λ n h. starts_again c d more n (λ m k. same m (omega arith))) s
+-- a later limit, and other code that begins alike up to the first one
+starts_on : (c d : List Instruction) (ls : List Beginning) (low high : ℕ) → low ≤ high → ((n : ℕ) → n ≤ low → take n c ≡ take n d) → Starts c low ls → Starts d high ls
+starts_on c d [] low high h same s = tt
+starts_on c d (b ∷ more) low high h same s =
+    stands_on c d b.group (kinds more) low high (λ n. Starts c n more) (λ n. Starts d n more) h same (λ m n k l. starts_on c d more m n l (λ j i. same j (omega arith))) s
 
 -- ## A section that is read
 
@@ -103,7 +89,7 @@ one_more code i ls ms o e s =
     let same : (n : ℕ) → n ≤ length code → take n code ≡ take n (code ++ i ∷ []) = λ n h. sym (take-append-le n code (i ∷ []) h) in
     record {
       after = open_then [] (kinds ls) code (i ∷ []) o.after ∙ open_one (kinds ls) i ∙ e;
-      starts = starts_later (code ++ i ∷ []) ms (length code) (length (code ++ i ∷ [])) (omega (arith, length-append code (i ∷ []))) (starts_again code (code ++ i ∷ []) ms (length code) same s);
+      starts = starts_on code (code ++ i ∷ []) ms (length code) (length (code ++ i ∷ [])) (omega (arith, length-append code (i ∷ []))) same s;
     }
 
 -- ## Levels that begin and end
@@ -124,7 +110,7 @@ stands_within code g gs limit rest f s = s
 -- the innermost ends, or its second part begins
 pub starts_outer : (code : List Instruction) (ls : List Beginning) (limit : ℕ) → Starts code limit ls → Starts code limit (outer ls)
 starts_outer code [] limit s = tt
-starts_outer code (b ∷ more) limit s = stands_within code b.group (kinds more) limit (λ n. Starts code n more) (starts_later code more) s
+starts_outer code (b ∷ more) limit s = stands_within code b.group (kinds more) limit (λ n. Starts code n more) (λ m n h. starts_on code code more m n h (λ k l. refl)) s
 
 pub starts_second : (code : List Instruction) (ls : List Beginning) (limit : ℕ) → Starts code limit ls → Starts code limit (second_part ls)
 starts_second code [] limit s = tt
@@ -149,7 +135,7 @@ again_open code b more start times e o =
     sym (take-append-le n (take start code) (repeat times (drop start code)) (omega (arith, length-take start code, s.0)) ∙ take-take n start code h) in
     record {
       after = open_then [] (kinds more) (take start code) (repeat times (drop start code)) s.1 ∙ open_repeat (kinds more) (drop start code) times body;
-      starts = starts_later again more start (length again) (omega (arith, length-append (take start code) (repeat times (drop start code)), length-take start code)) (starts_again code again more start same s.2);
+      starts = starts_on code again more start (length again) (omega (arith, length-append (take start code) (repeat times (drop start code)), length-take start code)) same s.2;
     }
 
 -- the innermost repeat ends

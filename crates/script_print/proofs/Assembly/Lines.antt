@@ -1,9 +1,9 @@
 -- Each line keeps what is kept of the lines so far.
 use Rattle.std.proofs.Common.{ℕ, ◌+◌, List, [], ◌∷◌, Option, Some, None, Ok, refl, ◌≤◌, Result, Err}
-use Rattle.script_print.proofs.Common.{AsmFault, AsmKind, Bounds, IfOk, IsSize, MAX_ARENA, MAX_COMMITS, MAX_DEPTH, MAX_PATIENCE, MAX_REPEATS, MAX_RESTARTS, MAX_RETRIES, State, any_if, at_line, bind_if, choice_if, count_of, fault, fields, init_of, innermost, innermost_line, instruction_of, is_allowed, laid_in, limit_of, lines_say, list_all, may_stand, meaning, none, obeyed, repeated, repeats, run_code, said, schedule_of, scheduled, size_of, threaded, without_comment, word_of, worded, ⊤, ◌>>=◌}
-use Rattle.script_fields.specs.declared.fault.AsmKind.TheVariants as faults
-use Rattle.script_asm.specs.declared.words.Word.{Word}
-use Rattle.script_asm.specs.declared.words.Word.TheVariants as words
+use Rattle.script_print.proofs.Common.{AsmFault, FaultKind, Bounds, IfOk, IsSize, MAX_ARENA, MAX_COMMITS, MAX_DEPTH, MAX_PATIENCE, MAX_REPEATS, MAX_RESTARTS, MAX_RETRIES, State, any_if, at_line, bind_if, choice_if, count_of, fault, fields, init_of, innermost, innermost_line, instruction_of, is_allowed, laid_in, limit_of, lines_say, list_all, may_stand, meaning, none, obeyed, repeated, repeats, run_code, said, schedule_of, scheduled, size_of, threaded, without_comment, word_of, worded, ⊤, ◌>>=◌}
+use Rattle.script_fields.specs.declared.fault.FaultKind.TheVariants as faults
+use Rattle.script_asm.specs.declared.mnemonics.Word.{Word}
+use Rattle.script_asm.specs.declared.mnemonics.Word.TheVariants as words
 use Rattle.script_print.proofs.Printable.{IsSaid}
 use Rattle.script_print.proofs.Assembly.Blocks.{run_sound, repeats_sound, repeated_sound}
 use Rattle.script_print.proofs.Assembly.Instructions.{instruction_said}
@@ -14,7 +14,7 @@ use Rattle.script_print.proofs.Assembly.States.{AreBounds, IsSound, laid_sound, 
 -- ## One line
 
 -- the operands of a line, and what they say
-operands_sound : {A : Type 0} (P : A → Type 0) (n : ℕ) (r : Result A AsmKind) (f : A → Result State AsmFault) → IfOk r P → ((x : A) → P x → IfOk (f x) IsSound) → IfOk (at_line n r >>= f) IsSound
+operands_sound : {A : Type 0} (P : A → Type 0) (n : ℕ) (r : Result A FaultKind) (f : A → Result State AsmFault) → IfOk r P → ((x : A) → P x → IfOk (f x) IsSound) → IfOk (at_line n r >>= f) IsSound
 operands_sound P n (Ok x) f h k = k x h
 operands_sound P n (Err j) f h k = tt
 

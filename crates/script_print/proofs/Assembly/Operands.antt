@@ -1,9 +1,8 @@
 -- What operands are that were read: their ranges.
 use Rattle.std.proofs.Common.{ℕ, ◌*◌, ◌%◌, ◌^◌, ◌<◌, ◌≤◌, leb, eqb, ◌&&◌, List, length, Result, Ok, Err, arith}
-use Rattle.script_print.proofs.Common.{AsmKind, IfOk, IsBytes, IsLiteral, IsPlace, IsSize, MAX_INIT_DIGITS, MAX_MEMORY, after_if, and_parts, any_if, bind_if, both, both_if, choice_if, commit_action, digits, digits_if, eqb-true, function, init_of, leb-true, limit_of, literal, literal_form, memory_size, no_transaction, number, number_form, one, one_place, place, place_form, place_register, register, register_literal, register_number, register_place, size_of, three, three_places, two, two_places, undo_action, within, within_if, ⊤}
-use Rattle.script_fields.specs.Operands.{◌>>=◌}
-use Rattle.script_fields.specs.declared.fault.AsmKind.TheVariants as kinds
-use Rattle.script_fields.proofs.HexDigits.{hex_said}
+use Rattle.script_print.proofs.Common.{FaultKind, IfOk, IsBytes, IsLiteral, IsPlace, IsSize, MAX_INIT_DIGITS, MAX_MEMORY, after_if, and_parts, any_if, bind_if, both, both_if, choice_if, commit_action, digits, digits_if, eqb-true, function, init_of, leb-true, limit_of, literal, literal_form, memory_size, no_transaction, number, number_form, one, one_place, place, place_form, place_register, register, register_literal, register_number, register_place, size_of, three, three_places, two, two_places, undo_action, within, within_if, ⊤}
+use Rattle.script_fields.{specs.Operands.◌>>=◌, proofs.HexDigits.hex_said}
+use Rattle.script_fields.specs.declared.fault.FaultKind.TheVariants as kinds
 
 -- ## Numbers and bytes
 
@@ -21,7 +20,7 @@ digits_form f = digits_if MAX_INIT_DIGITS f IsInitial (λ hex few. let said = he
 
 -- ## Operands of instructions
 
-two_if : {A B : Type 0} (P : A → Type 0) (Q : B → Type 0) (f : List ℕ → Result A AsmKind) (g : List ℕ → Result B AsmKind) (fs : List (List ℕ)) → ((x : List ℕ) → IfOk (f x) P) → ((x : List ℕ) → IfOk (g x) Q)
+two_if : {A B : Type 0} (P : A → Type 0) (Q : B → Type 0) (f : List ℕ → Result A FaultKind) (g : List ℕ → Result B FaultKind) (fs : List (List ℕ)) → ((x : List ℕ) → IfOk (f x) P) → ((x : List ℕ) → IfOk (g x) Q)
     → IfOk (two fs >>= λ x. both (f x.0) (g x.1)) (λ y. P y.0 × Q y.1)
 two_if P Q f g fs p q = after_if _ (two fs) _ (λ x. both_if P Q (f x.0) (g x.1) (p x.0) (q x.1))
 

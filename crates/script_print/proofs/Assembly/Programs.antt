@@ -1,7 +1,7 @@
 -- What a text says is a program that a text can say.
 use Rattle.std.proofs.Common.{◌≡◌, ℕ, ◌<◌, ◌≤◌, ltb, List, [], ◌∷◌, length, Option, Some, None, refl, sym, arith, subst, length-append}
 use Rattle.script_print.proofs.Common.{AllByRecursion, AreWithin, Bounds, IfOk, IfSome, MAX_ARENA, MAX_COMMITS, MAX_DEPTH, MAX_PATIENCE, MAX_RESTARTS, MAX_RETRIES, MAX_TEXT, Sections, Shared, State, USUAL_DEPTH, arena_of, bind_if, choice_if, closed, complete, end_of, fault, has_begun, initial, innermost_line, limits_of, lines, lines_say, listing_of, ltb-true, named, parts_of, program_of, stray_of, thread_total, unwrap_or, ◌>>=◌}
-use Rattle.script_fields.specs.declared.fault.AsmKind.TheVariants as faults
+use Rattle.script_fields.specs.declared.fault.FaultKind.TheVariants as faults
 use Rattle.script_print.proofs.Printable.{IsPrintable, IsItem}
 use Rattle.script_print.proofs.Assembly.Items.{none_stray}
 use Rattle.script_print.proofs.Assembly.Lines.{lines_sound}

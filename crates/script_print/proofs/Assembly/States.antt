@@ -1,7 +1,7 @@
 -- What is kept of what the lines so far say.
 use Rattle.std.proofs.Common.{◌≡◌, ℕ, ◌+◌, ◌≤◌, ltb, leb, List, [], ◌∷◌, ◌++◌, length, Option, Some, None, Ok, refl, sym, arith, subst, ◌*◌}
 use Rattle.script_print.proofs.Common.{AllByRecursion, Beginning, Bounds, IfOk, IfSome, IsBytes, IsSize, Item, MAX_ACTORS, MAX_ARENA, MAX_COMMITS, MAX_DEPTH, MAX_INIT_DIGITS, MAX_ITEMS, MAX_PATIENCE, MAX_RESTARTS, MAX_RETRIES, Shared, State, all_append, begun, choice_if, fault, initial, innermost_line, instruction_total, laid_in, leb-true, ltb-false, planned, scheduled, thread_total, threaded}
-use Rattle.script_fields.specs.declared.fault.AsmKind.TheVariants as kinds
+use Rattle.script_fields.specs.declared.fault.FaultKind.TheVariants as kinds
 use Rattle.script_print.proofs.Printable.{IsInit}
 use Rattle.script_print.proofs.Assembly.Items.{HasEvents, IsPlanned, plans_more}
 use Rattle.script_print.proofs.Assembly.Sections.{IsReading, reads_section}

@@ -1,12 +1,12 @@
 -- What each line holds is read as its fields.
 use Rattle.std.proofs.Common.{ℕ, ◌<◌, ◌≤◌, ◌^◌, List, [], ◌∷◌, ◌++◌, map, refl, sym, subst, arith, lit<, inl, inr, codes}
-use Rattle.script_print.proofs.Common.{AllByRecursion, AreWithin, Instruction, IsField, IsSize, Item, Listing, MAX_ACTORS, MAX_ARENA, MAX_DEPTH, MAX_MEMORY, MAX_RESTARTS, Part, Placed, USUAL_DEPTH, all_append, cases_eq, decimal_field, depth_lines, eq-eqb, flat_map, flat_map-cons, hex_field, init_fields, instruction_fields, item_fields, limit_lines, literal_field, mode_field, ne_eqb, no_transaction_field, number_fields, part_lines, place_field, program_lines, props_field, register_field, restart_lines, scope_field, sum_by-cons, thread_fields}
+use Rattle.script_print.proofs.Common.{AllByRecursion, AreWithin, Instruction, IsField, IsSize, Item, Listing, MAX_ACTORS, MAX_ARENA, MAX_MEMORY, Part, Placed, USUAL_DEPTH, all_append, cases_eq, decimal_field, depth_lines, eq-eqb, flat_map, flat_map-cons, hex_field, init_fields, instruction_fields, item_fields, limit_lines, literal_field, mode_field, ne_eqb, no_transaction_field, number_fields, part_lines, place_field, program_lines, props_field, register_field, restart_lines, scope_field, sum_by-cons, thread_fields}
 use Rattle.itm_entries.specs.declared.entry.Control.TheVariants as controls
 use Rattle.itm_entries.specs.declared.entry.Entry.TheVariants as entries
 use Rattle.script_program.specs.declared.instruction.Instruction.TheVariants as code
 use Rattle.script_print.proofs.Printable.{IsSaid, IsInit, IsItem, IsPart, IsPrintable, threads_in}
 use Rattle.script_print.proofs.Texts.Words.{operation_field, load_field, save_field, entry_field}
-use Rattle.script_print.proofs.Texts.Lines.{AreFields}
+use Rattle.script_print.proofs.Texts.Lines.{AreFields, lines_unless}
 use Rattle.script_print.proofs.Texts.ItemTexts.{item_field}
 
 -- ## Instructions
@@ -40,18 +40,11 @@ instruction_field (code.Fill hint to byte size) h = (entry_field (entries.Fill h
 number_field : (word : List ℕ) (n : ℕ) → IsField word → n < 2 ^ 64 → AllByRecursion IsField (number_fields word n)
 number_field word n h small = (h, (decimal_field n small, tt))
 
-depth_field : (depth : ℕ) → depth ≤ MAX_DEPTH → AreFields (depth_lines depth)
-depth_field depth few =
-    elim (cases_eq depth USUAL_DEPTH) [
-      | inl usual ↦ rw (eq-eqb depth USUAL_DEPTH usual) tt
-      | inr other ↦ rw (ne_eqb depth USUAL_DEPTH other) (number_field (codes ".depth") depth (lit< tt, refl) (omega arith), tt)
-    ]
-
-restart_field : (restarts : ℕ) → restarts ≤ MAX_RESTARTS → AreFields (restart_lines restarts)
-restart_field restarts few =
-    elim (cases_eq restarts 0) [
-      | inl none ↦ rw (eq-eqb restarts 0 none) tt
-      | inr some ↦ rw (ne_eqb restarts 0 some) (number_field (codes ".restarts") restarts (lit< tt, refl) (omega arith), tt)
+unless_field : (usual k : ℕ) (word : List ℕ) → IsField word → k < 2 ^ 64 → AreFields (lines_unless usual word k)
+unless_field usual k word h small =
+    elim (cases_eq k usual) [
+      | inl same ↦ rw (eq-eqb k usual same) tt
+      | inr other ↦ rw (ne_eqb k usual other) (number_field word k h small, tt)
     ]
 
 init_field : (size : ℕ) (i : Placed) → size ≤ MAX_MEMORY → IsInit size i → AllByRecursion IsField (init_fields i)
@@ -80,7 +73,7 @@ limit_field p size arena within = (
       number_field (codes ".patience") p.limits.patience (lit< tt, refl) (omega arith),
       (
         number_field (codes ".retries") p.limits.retries (lit< tt, refl) (omega arith),
-        (number_field (codes ".commits") p.limits.max_commits (lit< tt, refl) (omega arith), all_append (AllByRecursion IsField) (restart_lines p.limits.restarts) (depth_lines p.limits.depth) (restart_field p.limits.restarts within.restarts) (depth_field p.limits.depth within.depth.1)),
+        (number_field (codes ".commits") p.limits.max_commits (lit< tt, refl) (omega arith), all_append (AllByRecursion IsField) (restart_lines p.limits.restarts) (depth_lines p.limits.depth) (unless_field 0 p.limits.restarts (codes ".restarts") (lit< tt, refl) (omega arith)) (unless_field USUAL_DEPTH p.limits.depth (codes ".depth") (lit< tt, refl) (omega arith))),
       ),
     ),
   ),

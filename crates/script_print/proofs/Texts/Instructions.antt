@@ -3,10 +3,10 @@ use Rattle.std.proofs.Common.{◌≡◌, ℕ, cond, List, [], ◌∷◌, Some, N
 use Rattle.script_print.proofs.Common.{AsmFault, Instruction, Mnemonic, State, abort_scope, code_may_stand, commit_action, control_code, entry_code, fault, function_again, instruction_fields, instruction_of, literal_again, mode_again, no_transaction_again, none, number_again, obeyed, one, one_place, one_register, only_mode, place_again, place_register, props_again, register_again, register_literal, register_number, register_place, register_props, run_code, said, scope_again, three, three_places, three_registers, two, two_places, two_registers, undo_action, word_of}
 use Rattle.itm_entries.specs.declared.entry.Control.TheVariants as controls
 use Rattle.itm_entries.specs.declared.entry.Entry.TheVariants as entries
-use Rattle.script_fields.specs.declared.fault.AsmKind.TheVariants as kinds
+use Rattle.script_fields.specs.declared.fault.FaultKind.TheVariants as kinds
 use Rattle.script_program.specs.declared.instruction.Instruction.TheVariants as code
-use Rattle.script_asm.specs.declared.words.Mnemonic.TheVariants as mnemonics
-use Rattle.script_asm.specs.declared.words.Word.TheVariants as words
+use Rattle.script_asm.specs.declared.mnemonics.Mnemonic.TheVariants as mnemonics
+use Rattle.script_asm.specs.declared.mnemonics.Word.TheVariants as words
 use Rattle.script_print.proofs.Printable.{IsSaid}
 use Rattle.script_print.proofs.Texts.Words.{no_word, operation_word, load_word, save_word, entry_word}
 

@@ -1,9 +1,7 @@
 -- The lines of a schedule say its items.
 use Rattle.std.proofs.Common.{◌≡◌, ℕ, ◌+◌, ◌<◌, ◌≤◌, false, List, [], ◌∷◌, ◌++◌, length, map, Ok, refl, sym, ap, ◌∙◌, arith, append_assoc, length-append}
 use Rattle.script_print.proofs.Common.{AllByRecursion, Item, MAX_ACTORS, MAX_ITEMS, State, append-nil, has_begun, item_fields, le-ltb, obeyed, said, word_of}
-use Rattle.script_print.proofs.Printable.{IsItem}
-use Rattle.script_print.proofs.Texts.Lines.{all_said, said_next}
-use Rattle.script_print.proofs.Texts.ItemTexts.{schedule_again}
+use Rattle.script_print.{proofs.Printable.IsItem, proofs.Texts.Lines.all_said, proofs.Texts.Lines.said_next, proofs.Texts.ItemTexts.schedule_again}
 
 abbrev pub with_items : State → List Item → List ℕ → State
 with_items s items lines = record s { schedule = record { items = items; lines = lines } }

@@ -1,8 +1,7 @@
 -- Lines that are put one after the other.
 use Rattle.std.proofs.Common.{◌≡◌, ℕ, ◌+◌, ◌<◌, ◌≤◌, List, [], ◌∷◌, ◌++◌, length, map, take, get_or, Some, refl, sym, ap, ◌∙◌, arith, append_assoc, append-nil, slice_get}
 use Rattle.script_print.proofs.Common.{Listing, Part, ended, field_text, flat_map, flat_map-append, joined, lines_text, map-append, part_lines, printed, program_lines, take_all, take_more}
-use Rattle.std.proofs.lemmas.Grind.{common_steps}
-use Rattle.std.proofs.lemmas.Option.{slice_get_within, get_or_from_slice_get}
+use Rattle.std.{proofs.lemmas.Grind.common_steps, proofs.lemmas.Option.slice_get_within, proofs.lemmas.Option.get_or_from_slice_get}
 use Rattle.script_print.specs.declared.field.Field.{Field}
 
 -- ## One line

@@ -1,6 +1,6 @@
 -- Lines of fields say what their fields say, line by line.
-use Rattle.std.proofs.Common.{◌≡◌, ℕ, ◌+◌, List, [], ◌∷◌, ◌++◌, length, map, Result, Ok, Err, refl, ap, ◌∙◌, arith}
-use Rattle.script_print.proofs.Common.{AllByRecursion, AsmFault, IsField, IsLine, State, allowed_again, code_again, fields_again, joined, joined_line, lines_say, meaning, said, ◌>>=◌}
+use Rattle.std.proofs.Common.{◌≡◌, ℕ, ◌+◌, ◌==◌, if◌then◌else◌, List, [], ◌∷◌, ◌++◌, length, map, Result, Ok, Err, refl, ap, ◌∙◌, arith}
+use Rattle.script_print.proofs.Common.{AllByRecursion, AsmFault, IsField, IsLine, State, allowed_again, code_again, fields_again, joined, joined_line, lines_say, meaning, number_fields, said, ◌>>=◌}
 
 -- each line is of fields
 abbrev pub AreFields : List (List (List ℕ)) → Type 0
@@ -10,6 +10,10 @@ AreFields ls = AllByRecursion (AllByRecursion IsField) ls
 abbrev pub all_said : State → ℕ → List (List (List ℕ)) → Result State AsmFault
 all_said s n [] = Ok s
 all_said s n (fs ∷ more) = said s n fs >>= λ t. all_said t (n + 1) more
+
+-- the line of a number, or none where it is the usual one
+abbrev pub lines_unless : ℕ → List ℕ → ℕ → List (List (List ℕ))
+lines_unless usual word k = if k == usual then [] else number_fields word k ∷ []
 
 joined_says : (s : State) (n : ℕ) (fs : List (List ℕ)) → AllByRecursion IsField fs → meaning s n (joined fs) ≡ said s n fs
 unfolding meaning

@@ -1,10 +1,11 @@
 -- The text of a program says the program.
-use Rattle.std.proofs.Common.{◌≡◌, ℕ, ◌+◌, ◌<◌, ◌≤◌, List, [], ◌∷◌, ◌++◌, length, map, None, Ok, refl, sym, ap, ◌∙◌, arith, unwrap_or}
-use Rattle.script_print.proofs.Common.{AllByRecursion, Item, Listing, MAX_TEXT, Out, Part, Sections, State, Take, end_of, flat_map, init_fields, initial, item_fields, joined, le-ltb, limit_lines, lines, lines_again, lines_say, lt-ltb, part_lines, parts_of, printed, program_lines, program_of, stray_of, thread_total, threads_more}
+use Rattle.std.proofs.Common.{◌≡◌, ℕ, ◌+◌, ◌<◌, ◌≤◌, List, [], ◌∷◌, ◌++◌, length, map, None, Ok, refl, sym, ap, ◌∙◌, arith}
+use Rattle.script_print.proofs.Common.{AllByRecursion, Item, Listing, MAX_TEXT, Out, Sections, State, Take, USUAL_DEPTH, end_of, flat_map, init_fields, initial, item_fields, joined, le-ltb, limit_lines, lines, lines_again, lines_say, lt-ltb, part_lines, parts_of, printed, program_lines, program_of, stray_of, thread_total}
 use Rattle.script_print.proofs.Printable.{IsItem, IsPrintable, threads_in}
+use Rattle.script_print.proofs.Assembly.Sections.{threads_read}
 use Rattle.script_print.proofs.Texts.Lines.{all_said, lines_said, lines_made, said_on}
 use Rattle.script_print.proofs.Texts.Fields.{program_field}
-use Rattle.script_print.proofs.Texts.Directives.{with_memory, with_limits, depth_again, restarts_again, said_restarts, limits_said, inits_said}
+use Rattle.script_print.proofs.Texts.Directives.{with_memory, with_limits, unless_again, limits_said, inits_said}
 use Rattle.script_print.proofs.Texts.Items.{with_items, items_said}
 use Rattle.script_print.proofs.Texts.Sections.{with_sections, parts_said}
 
@@ -44,18 +45,12 @@ no_stray n (i ∷ items) [] h = refl
 no_stray n (Take thread count ∷ items) (line ∷ places) h = rw (lt-ltb thread n h.0.0) (no_stray n items places h.1)
 no_stray n (Out thread ∷ items) (line ∷ places) h = rw (lt-ltb thread n h.0) (no_stray n items places h.1)
 
--- as many threads as the sections have
-total : (t : Sections) → thread_total t ≡ threads_in (parts_of t)
-unfolding thread_total
-total t = sym (threads_more t.ended (record { count = t.count; code = t.code }))
-
 ends_well : (p : Listing) (places : List ℕ) (t : Sections) → IsPrintable p → 0 < t.count → parts_of t ≡ p.parts → end_of (ended p places t) ≡ Ok p
 unfolding end_of
 ends_well p places t h some parts =
-    let threads : thread_total t ≡ threads_in p.parts = total t ∙ ap threads_in parts in
+    let threads : thread_total t ≡ threads_in p.parts = sym (threads_read t) ∙ ap threads_in parts in
     let named : stray_of (thread_total t) p.schedule places ≡ None = ap (λ (n : ℕ). stray_of n p.schedule places) threads ∙ no_stray (threads_in p.parts) p.schedule places h.schedule in
-    rw (lt-ltb 0 t.count some, named) (ap (λ (depth : ℕ). Ok (record p { limits = record p.limits { depth = depth; restarts = unwrap_or (said_restarts p.limits.restarts) 0 }; parts = parts_of t })) (depth_again p.limits.depth)
-    ∙ ap (λ (restarts : ℕ). Ok (record p { limits = record p.limits { restarts = restarts }; parts = parts_of t })) (restarts_again p.limits.restarts) ∙ ap (λ (parts : List Part). Ok (record p { parts = parts })) parts)
+    rw (lt-ltb 0 t.count some, named) (λ i. Ok (record p { limits = record p.limits { depth = unless_again USUAL_DEPTH p.limits.depth i; restarts = unless_again 0 p.limits.restarts i }; parts = parts i }))
 
 -- ## The text
 

@@ -1,6 +1,6 @@
 -- The lines of sections say the sections.
 use Rattle.std.proofs.Common.{◌≡◌, ℕ, ◌+◌, ◌<◌, ◌≤◌, true, List, [], ◌∷◌, ◌++◌, length, map, Ok, refl, sym, ap, ◌∙◌, arith, append_assoc, inl, inr, codes, is_some}
-use Rattle.script_print.proofs.Common.{AllByRecursion, Beginning, MAX_ACTORS, MAX_INSTRUCTIONS, Part, Sections, State, begun, cases_eq, count_of, eq-eqb, flat_map, flat_map-cons, instruction_fields, instruction_total, le-ltb, lt-ltb, ne_eqb, number_again, number_fields, obeyed, one, part_lines, parts_of, said, sum_by-append, sum_by-cons, thread_fields, thread_total, threaded, word_of}
+use Rattle.script_print.proofs.Common.{AllByRecursion, Beginning, MAX_ACTORS, MAX_INSTRUCTIONS, Part, Sections, State, begun, cases_eq, count_of, eq-eqb, flat_map, flat_map-cons, instruction_fields, instruction_total, le-ltb, lt-ltb, ne_eqb, number_again, number_fields, obeyed, one, part_lines, parts_of, said, sum_by, sum_by-append, sum_by-cons, thread_fields, thread_total, threaded, word_of}
 use Rattle.script_print.proofs.Printable.{IsPart, threads_in, instructions_in}
 use Rattle.script_print.proofs.Texts.Lines.{all_said, said_next, said_on}
 use Rattle.script_print.proofs.Texts.Code.{groups_of, with_code, code_said}
@@ -59,11 +59,8 @@ part_said s n t ended q may begins few short h =
 abbrev pub SaysParts : State → ℕ → Sections → List Part → List Part → Type 0
 SaysParts s n before more all = (t : Sections) × (0 < t.count) × (parts_of t ≡ all) × (all_said (with_sections s before) n (flat_map part_lines more) ≡ Ok (with_sections s t))
 
-threads_split : (ended : List Part) (q : Part) (more : List Part) → threads_in (ended ++ q ∷ more) ≡ threads_in ended + (q.count + threads_in more)
-threads_split ended q more = sum_by-append (λ (p : Part). p.count) ended (q ∷ more) ∙ ap (λ (k : ℕ). threads_in ended + k) (sum_by-cons (λ (p : Part). p.count) q more)
-
-instructions_split : (ended : List Part) (q : Part) (more : List Part) → instructions_in (ended ++ q ∷ more) ≡ instructions_in ended + (length q.code + instructions_in more)
-instructions_split ended q more = sum_by-append (λ (p : Part). length p.code) ended (q ∷ more) ∙ ap (λ (k : ℕ). instructions_in ended + k) (sum_by-cons (λ (p : Part). length p.code) q more)
+sum_split : (f : Part → ℕ) (ended : List Part) (q : Part) (more : List Part) → sum_by f (ended ++ q ∷ more) ≡ sum_by f ended + (f q + sum_by f more)
+sum_split f ended q more = sum_by-append f ended (q ∷ more) ∙ ap (λ (k : ℕ). sum_by f ended + k) (sum_by-cons f q more)
 
 -- a section, and those after it
 part_then : (s : State) (n : ℕ) (before : Sections) (ended : List Part) (q : Part) (more all : List Part) → is_some s.memory ≡ true → begun before q.count ≡ sections ended (of_count q.count)
@@ -90,8 +87,8 @@ later (r ∷ more) s n ended q may some few short h =
     let rest = later more s (n + length (part_lines r)) so_far r may h.0.0 (omega arith) (omega arith) h.1 in
     let begins : begun (sections ended q) r.count ≡ sections so_far (of_count r.count) = rw (lt-ltb 0 q.count some) refl in
     part_then s n (sections ended q) so_far r more (ended ++ q ∷ r ∷ more) may begins
-    (omega (arith, threads_split ended q (r ∷ more), sum_by-cons (λ (p : Part). p.count) r more))
-    (omega (arith, instructions_split so_far r more)) h.0
+    (omega (arith, sum_split (λ p. p.count) ended q (r ∷ more), sum_by-cons (λ (p : Part). p.count) r more))
+    (omega (arith, sum_split (λ p. length p.code) so_far r more)) h.0
     (rest.0, rest.1, rest.2 ∙ all, rest.3)
 
 -- before the first section
@@ -103,5 +100,5 @@ pub parts_said : (parts : List Part) (s : State) (n : ℕ) → is_some s.memory 
 unfolding thread_total
 parts_said [] s n may some few short h = absurd (omega arith)
 parts_said (q ∷ more) s n may some few short h =
-    part_then s n no_sections [] q more (q ∷ more) may refl (omega (arith, threads_split [] q more)) (omega (arith, instructions_split [] q more)) h.0
+    part_then s n no_sections [] q more (q ∷ more) may refl (omega (arith, sum_split (λ p. p.count) [] q more)) (omega (arith, sum_split (λ p. length p.code) [] q more)) h.0
     (later more s (n + length (part_lines q)) [] q may h.0.0 few short h.1)

@@ -1,16 +1,12 @@
 -- The first field of an instruction's line is the word of its code.
 use Rattle.std.proofs.Common.{◌≡◌, true, [], Some, None, refl, arith, lit<}
 use Rattle.script_print.proofs.Common.{All-contains, AllPass-from_list_all, Entry, IsField, is_field_byte, list_all, load_name, operation_name, save_name, word_of}
-use Rattle.itm_entries.specs.Names.{name_of}
-use Rattle.itm_entries.specs.Entries.{entries, entry_of}
-use Rattle.itm_entries.proofs.AllEntries.{listed}
-use Rattle.itm_entries.proofs.UniqueNames.{entry_of-exact}
-use Rattle.script_program.specs.declared.instruction.Operation.{Operation}
+use Rattle.itm_entries.{specs.Names.name_of, specs.Entries.entries, specs.Entries.entry_of, proofs.AllEntries.listed, proofs.UniqueNames.entry_of-exact}
+use Rattle.script_program.{specs.declared.instruction.Operation.Operation, specs.declared.instruction.ArenaWidth.ArenaWidth}
 use Rattle.script_program.specs.declared.instruction.Operation.TheVariants as operations
-use Rattle.script_program.specs.declared.instruction.ArenaWidth.{ArenaWidth}
 use Rattle.script_program.specs.declared.instruction.ArenaWidth.TheVariants as widths
-use Rattle.script_asm.specs.declared.words.Word.TheVariants as words
-use Rattle.script_asm.specs.declared.words.Mnemonic.TheVariants as mnemonics
+use Rattle.script_asm.specs.declared.mnemonics.Word.TheVariants as words
+use Rattle.script_asm.specs.declared.mnemonics.Mnemonic.TheVariants as mnemonics
 
 pub no_word : word_of [] ≡ None
 unfolding word_of entry_of

@@ -1,6 +1,7 @@
 -- Every attempt of a player's run is one alone on the memory of its position.
-use Rattle.std.proofs.Common.{◌≡◌, ℕ, zero, suc, ◌≤◌, Bool, true, false, not, ◌&&◌, ◌||◌, is_none, if◌then◌else◌, All, List, [], ◌∷◌, Option, None, Some, refl, sym, ap, ◌∙◌}
-use Rattle.tx_history.proofs.Common.{All-cons, All-nil, Attempt, Begin, Beginning, Between, Call, IsAlone, IsRunOf, IsTryAt, NoIrrevocable, Refusal, Rules, after, after_try, begin_of, begin_within, may_begin, or_else, outside, refusal, reply, unless}
+use Rattle.std.proofs.Common.{◌≡◌, ℕ, zero, suc, ◌≤◌, Bool, true, false, not, ◌&&◌, ◌||◌, is_none, if◌then◌else◌, All, List, [], ◌∷◌, Option, None, Some, refl, ap, subst, ◌∙◌}
+use Rattle.tx_history.proofs.Common.{All-cons, All-nil, Attempt, Begin, Beginning, Between, Call, IsAlone, IsRunOf, IsTryAt, NoIrrevocable, Rules, after, after_try, begin_of, begin_within, may_begin, or_else, outside, Props, refusal, reply, unless}
+use Rattle.itm_types.specs.declared.call.Refusal.{Refusal}
 use Rattle.tx_history.proofs.Runs.AloneCalls.{is_alone}
 
 -- ## Begins
@@ -11,23 +12,24 @@ by_flags true true later e = absurd (cc)
 by_flags true false later e = refl
 by_flags false forbids later e = refl
 
-module _ {P : Type 0} (rules : Rules P) (deepest : ℕ) where
-  may_begin_there : (n : ℕ) (p : P) (arena : List ℕ) (o : Option Call) (start : Beginning P) → begin_within rules deepest n p arena o ≡ Some start → may_begin start.props ≡ true
-  may_begin_there zero p arena o start e = absurd (cc)
-  may_begin_there (suc n) p arena None start e = absurd (cc)
-  may_begin_there (suc n) p arena (Some (Begin props room)) start e = by_test (λ f. may_begin_there n (rules.answered p (reply deepest (outside [] arena) (Begin props room))) arena (rules.next_call (rules.answered p (reply deepest (outside [] arena) (Begin props room)))) start f) (is_none (refusal deepest (outside [] arena) (Begin props room))) refl e
+-- what holds of each arena between blocks, and of a beginning with such an arena, holds of the beginning that is found
+module _ {P : Type 0} (rules : Rules P) (deepest : ℕ) (K : List ℕ → Type 0) (R : Beginning P → Type 0)
+    (keeps : (arena : List ℕ) (call : Call) → K arena → K (after deepest (outside [] arena) call).arena)
+    (begins : (p : P) (arena : List ℕ) (props : Props) (room : ℕ) → K arena → is_none (refusal deepest (outside [] arena) (Begin props room)) ≡ true → R (record { player = p; arena = arena; props = props })) where
+  pub begun_so : (n : ℕ) (p : P) (arena : List ℕ) (o : Option Call) (start : Beginning P) → K arena → begin_within rules deepest n p arena o ≡ Some start → R start
+  begun_so zero p arena o start k e = absurd (cc)
+  begun_so (suc n) p arena None start k e = absurd (cc)
+  begun_so (suc n) p arena (Some (Begin props room)) start k e = by_test (λ f. begun_so n q arena (rules.next_call q) start k f) (is_none (refusal deepest (outside [] arena) (Begin props room))) refl e
     where
       q : P
       q = rules.answered p (reply deepest (outside [] arena) (Begin props room))
 
-      by_test : (begin_within rules deepest n q arena (rules.next_call q) ≡ Some start → may_begin start.props ≡ true) → (b : Bool) → is_none (refusal deepest (outside [] arena) (Begin props room)) ≡ b
-          → (if b then Some (record { player = p; arena = arena; props = props }) else begin_within rules deepest n q arena (rules.next_call q)) ≡ Some start → may_begin start.props ≡ true
-      by_test later true t f =
-          let same : record { player = p; arena = arena; props = props } ≡ start = cc in
-          ap (λ (s : Beginning P). may_begin s.props) (sym same) ∙ by_flags props.goes_irrevocable props.no_irrevocable _ t
+      by_test : (begin_within rules deepest n q arena (rules.next_call q) ≡ Some start → R start) → (b : Bool) → is_none (refusal deepest (outside [] arena) (Begin props room)) ≡ b
+          → (if b then Some (record { player = p; arena = arena; props = props }) else begin_within rules deepest n q arena (rules.next_call q)) ≡ Some start → R start
+      by_test later true t f = (let same : record { player = p; arena = arena; props = props } ≡ start = cc in subst R same (begins p arena props room k t))
       by_test later false t f = later f
-  may_begin_there (suc n) p arena (Some call) start e =
-      (let q = rules.answered p (reply deepest (outside [] arena) call) in may_begin_there n q (after deepest (outside [] arena) call).arena (rules.next_call q) start e)
+  begun_so (suc n) p arena (Some call) start k e =
+      (let q = rules.answered p (reply deepest (outside [] arena) call) in begun_so n q (after deepest (outside [] arena) call).arena (rules.next_call q) start (keeps arena call k) e)
 
 -- ## Runs
 
@@ -40,7 +42,8 @@ module _ {P : Type 0} (rules : Rules P) (deepest n : ℕ) (memory : ℕ → List
   of_try b None a e t = absurd t
   of_try b (Some start) a e t = (
     is_alone rules deepest _ a n (memory a.at) t.3
-        (ap may_begin t.1 ∙ may_begin_there rules deepest (rules.calls_left b.player) b.player b.arena (rules.next_call b.player) start e),
+        (ap may_begin t.1 ∙ begun_so rules deepest (λ arena. Unit {0}) (λ begun. may_begin begun.props ≡ true) (λ arena call k. tt) (λ p arena props room k free. by_flags props.goes_irrevocable props.no_irrevocable _ free)
+        (rules.calls_left b.player) b.player b.arena (rules.next_call b.player) start tt e),
     t.3.no_newer,
   )
 

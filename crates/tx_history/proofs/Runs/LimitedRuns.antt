@@ -1,8 +1,10 @@
 -- What a player's run has in common: its attempts have the player's arena, are numbered from 1, and make the calls that the player makes.
-use Rattle.std.proofs.Common.{◌≡◌, ℕ, zero, suc, ◌≤◌, Bool, true, false, is_none, if◌then◌else◌, All, List, [], ◌∷◌, ◌++◌, length, map, Option, None, Some, refl, sym, ap, subst, ◌∙◌, arith, IfSome}
-use Rattle.tx_history.proofs.Common.{All-cons, All-nil, AreAgain, Attempt, Begin, Beginning, Between, Breaks, Call, CallRecord, Conflict, Full, IsRunOf, IsTryAt, NoMemory, Outcome, Reply, Rules, State, Unfinished, after, after_try, alone, begin_code, begin_of, begin_within, breaks_of, follows, gets_through, is_open, later, opened, outside, pair_of, refusal, reply, turn}
+use Rattle.std.proofs.Common.{◌≡◌, ℕ, ◌≤◌, All, List, [], ◌∷◌, length, Option, None, Some, refl, ap, subst, ◌∙◌, arith, IfSome}
+use Rattle.tx_history.proofs.Common.{All-cons, All-nil, AreAgain, Attempt, Beginning, Between, Call, CallRecord, Conflict, Full, IsRunOf, IsTryAt, NoMemory, Outcome, Rules, State, Unfinished, after_try, alone, begin_code, begin_of, follows, outside}
+use Rattle.std.proofs.lemmas.List.Elements.{All-weaker}
 use Rattle.tx_history.proofs.PlainSizes.{IsSized, from_whole, sized_after, sized_alone, sized_undone}
-use Rattle.tx_history.proofs.Runs.AloneCalls.{same_head, same_tail}
+use Rattle.tx_history.proofs.Runs.AloneCalls.{IsAsked, calls_told}
+use Rattle.tx_history.proofs.Runs.AloneRuns.{begun_so}
 
 -- the attempt has an arena of so many bytes, and each of its calls is one of these
 pub record IsOwn (Q : Call → Type 0) (k : ℕ) (a : Attempt) : Type 0 where
@@ -10,63 +12,15 @@ pub record IsOwn (Q : Call → Type 0) (k : ℕ) (a : Attempt) : Type 0 where
   pub nth : 1 ≤ a.nth
   pub calls : All (λ (x : CallRecord). Q x.call) a.calls.list
 
-module _ {P : Type 0} (rules : Rules P) (Q : Call → Type 0) (made : (p : P) (c : Call) → rules.next_call p ≡ Some c → Q c) where
-  -- ## Calls
-
-  in_turn : (p : P) (c : Call) (b : Bool) → (if b then rules.next_call p else None) ≡ Some c → Q c
-  in_turn p c true e = made p c e
-  in_turn p c false e = absurd (cc)
-
-  -- a beginning of what a player gets is of its calls
-  calls_made : (deepest : ℕ) (breaks : Breaks) (xs : List CallRecord) (rest : List (Call × Reply)) (n : ℕ) (p : P) (s : State) (o : Option Call) → turn rules.next_call rules.answered rules.calls_left p s ≡ o
-      → map pair_of xs ++ rest ≡ gets_through rules.next_call rules.answered rules.calls_left deepest n breaks p s o → All (λ (x : CallRecord). Q x.call) xs
-  calls_made deepest breaks [] rest n p s o t e = All-nil (λ (x : CallRecord). Q x.call)
-  calls_made deepest breaks (x ∷ xs) rest zero p s o t e = absurd (cc)
-  calls_made deepest breaks (x ∷ xs) rest (suc n) p s None t e = absurd (cc)
-  calls_made deepest breaks (x ∷ xs) rest (suc n) p s (Some call) t e =
-      let call_is : x.call ≡ call = ap (λ (c : Call × Reply). c.0) (same_head _ _ _ _ e) in
-      let q = rules.answered p (reply deepest s call) in
-      let u = breaks 1 (after deepest s call) in
-      let more : map pair_of xs ++ rest ≡ gets_through rules.next_call rules.answered rules.calls_left deepest n (later breaks) q u (turn rules.next_call rules.answered rules.calls_left q u) = same_tail _ _ _ _ e in
-      All-cons (λ (x : CallRecord). Q x.call) x xs (subst Q (sym call_is) (in_turn p call (is_open s) t))
-      (calls_made deepest (later breaks) xs rest n q u _ refl more)
-
-  -- ## Arenas
-
-  -- an arena has k bytes
-  abbrev HasSize : ℕ → ℕ → Type 0
-  HasSize k i = i ≡ k
-
-  sized_outside : (k : ℕ) (arena : List ℕ) → length arena ≡ k → IsSized 0 (HasSize k) (outside [] arena)
-  sized_outside k arena e = record { memory = refl; arena = e; back = tt }
-
-  arena_there : (deepest k n : ℕ) (p : P) (arena : List ℕ) (o : Option Call) (start : Beginning P) → length arena ≡ k → begin_within rules deepest n p arena o ≡ Some start → length start.arena ≡ k
-  arena_there deepest k zero p arena o start l e = absurd (cc)
-  arena_there deepest k (suc n) p arena None start l e = absurd (cc)
-  arena_there deepest k (suc n) p arena (Some (Begin props room)) start l e = by_test (λ f. arena_there deepest k n q arena (rules.next_call q) start l f) (is_none (refusal deepest (outside [] arena) (Begin props room))) e
-    where
-      q : P
-      q = rules.answered p (reply deepest (outside [] arena) (Begin props room))
-
-      by_test : (begin_within rules deepest n q arena (rules.next_call q) ≡ Some start → length start.arena ≡ k) → (b : Bool)
-          → (if b then Some (record { player = p; arena = arena; props = props }) else begin_within rules deepest n q arena (rules.next_call q)) ≡ Some start → length start.arena ≡ k
-      by_test later true f =
-          let same : record { player = p; arena = arena; props = props } ≡ start = cc in
-          sym (ap (λ (s : Beginning P). length s.arena) same) ∙ l
-      by_test later false f = later f
-  arena_there deepest k (suc n) p arena (Some call) start l e =
-      (let q = rules.answered p (reply deepest (outside [] arena) call) in
-      arena_there deepest k n q (after deepest (outside [] arena) call).arena (rules.next_call q) start (sized_after 0 (HasSize k) deepest (outside [] arena) call (sized_outside k arena l)).arena e)
-
--- ## Runs
-
 module _ {P : Type 0} (rules : Rules P) (Q : Call → Type 0) (made : (p : P) (c : Call) → rules.next_call p ≡ Some c → Q c) (deepest k n : ℕ) (memory : ℕ → List ℕ) where
   own_try : (b : Between P) (o : Option (Beginning P)) (a : Attempt) → length b.arena ≡ k → begin_of rules deepest b.player b.arena ≡ o → IsTryAt rules deepest n memory b o a → IsOwn Q k a
   own_try b None a l e t = absurd t
   own_try b (Some start) a l e t = record {
-    arena = ap (length {A = ℕ}) t.0 ∙ arena_there rules Q made deepest k (rules.calls_left b.player) b.player b.arena (rules.next_call b.player) start l e;
+    arena = ap (length {A = ℕ}) t.0 ∙ begun_so rules deepest (λ arena. length arena ≡ k) (λ begun. length begun.arena ≡ k)
+        (λ arena call size. (sized_after 0 (λ i. i ≡ k) deepest (outside [] arena) call (record { memory = refl; arena = size; back = tt })).arena) (λ p arena props room size free. size)
+        (rules.calls_left b.player) b.player b.arena (rules.next_call b.player) start l e;
     nth = (let later = t.2 in omega arith);
-    calls = calls_made rules Q made deepest (breaks_of a.restarts) a.calls.list t.3.beginning.0 (rules.calls_left (rules.answered start.player (begin_code b.again))) (rules.answered start.player (begin_code b.again)) (opened (memory a.at) a.arena a.props) _ refl t.3.beginning.1;
+    calls = All-weaker (IsAsked rules.next_call rules.answered rules.calls_left deepest) (λ (x : CallRecord). Q x.call) (λ x asked. made asked.0 x.call asked.1) a.calls.list (calls_told rules deepest (rules.answered start.player (begin_code b.again)) a n (memory a.at) t.3).2;
   }
 
   follows_sized : (o : Outcome) (p : P) (a : Attempt) (s : State) (m : ℕ) → IsSized m (λ i. i ≡ k) s → IfSome (follows rules deepest o p a s) (λ (b : Between P). length b.arena ≡ k)

@@ -1,7 +1,8 @@
 -- A transaction on the plain machine that has written nothing stands on the memory that it was opened on, and was never irrevocable.
-use Rattle.std.proofs.Common.{◌≡◌, ℕ, suc, ◌+◌, ◌%◌, Bool, true, false, true≢false, ◌||◌, nat_lt, if◌then◌else◌, length, replicate, take, drop, List, [], ◌∷◌, ◌++◌, Option, None, Some, refl, sym, ap, subst, ◌∙◌, arith, map, append-nil, lt-ltb}
-use Rattle.tx_history.proofs.Common.{Abort, Again, Begin, Block, Breaks, Call, Commit, CommitAction, Copy, CopyPair, Fill, In, Log, LogBytes, Mode, Out, Props, Refusal, Save, Saved, State, UndoAction, Within, Write, after, after_unless, again_at, also_kept, arena_set, back, back_from, breaks_of, closed, closed_in, closed_irrevocable, effect, entered, handed, irrevocable_from, is_open, later, logged, logged_in, made_irrevocable, nothing, opened, option_map, outside, pushed, refusal, rolled_back, size_of, source_bytes, state_through, take-append-drop, target_written, undone, undone_from, with_action, with_slice, with_undo, written}
-use Rattle.itm_types.specs.declared.call.Action.{Action}
+use Rattle.std.proofs.Common.{◌≡◌, ◌⊎◌, inl, inr, ℕ, suc, ◌+◌, Bool, true, false, true≢false, ◌||◌, nat_lt, if◌then◌else◌, length, take, drop, List, [], ◌∷◌, ◌++◌, Option, None, Some, refl, sym, ap, subst, ◌∙◌, arith, append-nil, lt-ltb}
+use Rattle.tx_history.proofs.Common.{Again, Block, Breaks, Call, IsKept, Props, Saved, State, after, after_kept, again_at, arena_set, back, back_from, breaks_of, closed, closed_in, closed_irrevocable, entered, entered_kept, is_open, later, made_irrevocable, nothing, opened, outside, pushed, rolled_back, state_through, take-append-drop, undone_from, written}
+use Rattle.tx_history.proofs.SavedBlocks.{AllSaved, saved_closed, saved_logged, saved_none}
+use Rattle.itm_types.specs.Slices.{with_slice}
 use Rattle.itm_types.specs.declared.call.ActionKind.TheVariants as kinds
 
 -- what a block goes back to, if nothing was written before it, is this memory
@@ -9,26 +10,16 @@ abbrev pub GoesBackTo : List ℕ → Option Saved → Type 0
 GoesBackTo m None = Unit {0}
 GoesBackTo m (Some saved) = saved.wrote ≡ false → saved.memory ≡ m
 
-abbrev pub AllGoBackTo : List ℕ → List Block → Type 0
-AllGoBackTo m [] = Unit {0}
-AllGoBackTo m (b ∷ bs) = GoesBackTo m b.saved × AllGoBackTo m bs
+-- a block can not be rolled back
+abbrev pub IsLast : Option Saved → Type 0
+IsLast o = o ≡ None
 
--- none of these blocks can be rolled back
-abbrev pub AllLast : List Block → Type 0
-AllLast [] = Unit {0}
-AllLast (b ∷ bs) = (b.saved ≡ None) × AllLast bs
-
--- it has written nothing and stands on this memory, or it has written
-pub record StandsOn (m : List ℕ) (s : State) : Type 0 where
+-- it has written nothing and stands on this memory, or it has written; where it was irrevocable before, it is so until its outermost block ends, and has written for good
+pub record StandsOn (m : List ℕ) (Was : Type 0) (s : State) : Type 0 where
   pub memory : s.wrote ≡ false → s.memory ≡ m
-  pub back : AllGoBackTo m s.blocks
-  pub lasts : s.irrevocable ≡ true → (s.wrote ≡ true) × AllLast s.blocks
-
--- it is irrevocable until its outermost block ends, and has written for good
-pub record IsFixed (s : State) : Type 0 where
-  pub wrote : s.wrote ≡ true
-  pub lasts : AllLast s.blocks
-  pub mode : is_open s ≡ true → s.irrevocable ≡ true
+  pub back : AllSaved (GoesBackTo m) s.blocks
+  pub lasts : (s.irrevocable ≡ true) ⊎ Was → (s.wrote ≡ true) × AllSaved IsLast s.blocks
+  pub mode : Was → is_open s ≡ true → s.irrevocable ≡ true
 
 -- ## Parts
 
@@ -48,217 +39,103 @@ either_left : (a b : Bool) → a ≡ true → (a || b) ≡ true
 either_left true b e = refl
 either_left false b e = absurd (cc)
 
-handed_back : (m : List ℕ) (outer inner : Option Saved) → GoesBackTo m outer → GoesBackTo m (handed outer inner)
-handed_back m None inner h = tt
-handed_back m (Some saved) None h = h
-handed_back m (Some saved) (Some inner) h = h
+still_last : (saved : Saved) (bytes : List (Option ℕ)) → Some saved ≡ None → Some (record saved { kept = bytes }) ≡ None
+still_last saved bytes e = absurd (cc)
 
-handed_last : (outer inner : Option Saved) → outer ≡ None → handed outer inner ≡ None
-handed_last None inner e = refl
-handed_last (Some saved) inner e = absurd (cc)
+-- a transaction that is irrevocable behind the end of a block was so before
+was_irrevocable : (bs : List Block) (i : Bool) → closed_irrevocable bs i ≡ true → i ≡ true
+was_irrevocable [] i e = e
+was_irrevocable (b ∷ []) i e = absurd (cc)
+was_irrevocable (b ∷ p ∷ bs) i e = e
 
-closed_back : (m : List ℕ) (bs : List Block) → AllGoBackTo m bs → AllGoBackTo m (closed_in bs)
-closed_back m [] h = tt
-closed_back m (b ∷ []) h = tt
-closed_back m (b ∷ p ∷ bs) h = (handed_back m p.saved b.saved h.1.0, h.1.1)
+-- and stays so while a block is open
+stays_irrevocable : (bs : List Block) (i : Bool) → (nat_lt 0 (length bs) ≡ true → i ≡ true) → nat_lt 0 (length (closed_in bs)) ≡ true → closed_irrevocable bs i ≡ true
+stays_irrevocable [] i mode o = mode o
+stays_irrevocable (b ∷ []) i mode o = absurd (cc)
+stays_irrevocable (b ∷ p ∷ bs) i mode o = mode (lt-ltb 0 (length (b ∷ p ∷ bs)) (omega arith))
 
-closed_last : (bs : List Block) → AllLast bs → AllLast (closed_in bs)
-closed_last [] h = tt
-closed_last (b ∷ []) h = tt
-closed_last (b ∷ p ∷ bs) h = (handed_last p.saved b.saved h.1.0, h.1.1)
-
-all_last : (bs : List Block) → AllLast (map (λ (b : Block). record b { saved = None }) bs)
-all_last [] = tt
-all_last (b ∷ bs) = (refl, all_last bs)
-
-last_back : (m : List ℕ) (bs : List Block) → AllLast bs → AllGoBackTo m bs
-last_back m [] h = tt
-last_back m (b ∷ bs) h = (subst (GoesBackTo m) (sym h.0) tt, last_back m bs h.1)
-
-logged_back : (m : List ℕ) (bs : List Block) (arena : List ℕ) (place size : ℕ) → AllGoBackTo m bs → AllGoBackTo m (logged_in bs arena place size)
-logged_back m [] arena place size h = tt
-logged_back m (b ∷ bs) arena place size h = (kept_back b.saved h.0, h.1)
-  where
-    kept_back : (o : Option Saved) → GoesBackTo m o → GoesBackTo m (option_map {T = Saved} (λ (saved : Saved). record saved { kept = also_kept saved.kept arena place size }) o)
-    kept_back None g = tt
-    kept_back (Some saved) g = g
-
-logged_last : (bs : List Block) (arena : List ℕ) (place size : ℕ) → AllLast bs → AllLast (logged_in bs arena place size)
-logged_last [] arena place size h = tt
-logged_last (b ∷ bs) arena place size h = (ap (option_map {T = Saved} (λ (saved : Saved). record saved { kept = also_kept saved.kept arena place size })) h.0, h.1)
-
--- ## A rollback
-
-module _ (m : List ℕ) where
-  rolled : (s : State) (rest : List Block) (o : Option Saved) → StandsOn m s → GoesBackTo m o → AllGoBackTo m rest → (s.irrevocable ≡ true → o ≡ None) → StandsOn m (rolled_back s rest o)
-  rolled s rest None h g all none = h
-  rolled s rest (Some saved) h g all none = record { memory = g; back = all; lasts = λ i. absurd (let n = none i in cc) }
-
-  rolled_mode : (s : State) (rest : List Block) (o : Option Saved) → (rolled_back s rest o).irrevocable ≡ s.irrevocable
-  rolled_mode s rest None = refl
-  rolled_mode s rest (Some saved) = refl
-
-  undone_so : (s : State) (bs : List Block) → StandsOn m s → AllGoBackTo m bs → (s.irrevocable ≡ true → AllLast bs) → StandsOn m (undone_from s bs)
-  undone_so s [] h all lasts = h
-  undone_so s (b ∷ bs) h all lasts = undone_so (rolled_back s bs b.saved) bs (rolled s bs b.saved h all.0 all.1 (λ i. (lasts i).0)) all.1 (λ i. (lasts (sym (rolled_mode s bs b.saved) ∙ i)).1)
-
-  back_so : (s : State) (bs : List Block) → StandsOn m s → AllGoBackTo m bs → (s.irrevocable ≡ true → AllLast bs) → StandsOn m (back_from s bs)
-  back_so s [] h all lasts = h
-  back_so s (b ∷ bs) h all lasts = rolled s bs b.saved h all.0 all.1 (λ i. (lasts i).0)
-
-undone_fixed : (s : State) (bs : List Block) → AllLast bs → undone_from s bs ≡ s
-undone_fixed s [] l = refl
-undone_fixed s (b ∷ bs) l = (let e : rolled_back s bs b.saved ≡ s = ap (rolled_back s bs) l.0 in ap (λ (t : State). undone_from t bs) e ∙ undone_fixed s bs l.1)
-
-back_fixed : (s : State) (bs : List Block) → AllLast bs → back_from s bs ≡ s
-back_fixed s [] l = refl
-back_fixed s (b ∷ bs) l = ap (rolled_back s bs) l.0
+rolled_mode : (s : State) (rest : List Block) (o : Option Saved) → (rolled_back s rest o).irrevocable ≡ s.irrevocable
+rolled_mode s rest None = refl
+rolled_mode s rest (Some saved) = refl
 
 -- ## Calls
 
-module _ (m : List ℕ) where
-  written_so : (s : State) (place : ℕ) (bytes : List ℕ) → StandsOn m s → StandsOn m (written s place bytes)
+module _ (m : List ℕ) (Was : Type 0) where
+  rolled : (s : State) (rest : List Block) (o : Option Saved) → StandsOn m Was s → GoesBackTo m o → AllSaved (GoesBackTo m) rest → ((s.irrevocable ≡ true) ⊎ Was → o ≡ None) → StandsOn m Was (rolled_back s rest o)
+  rolled s rest None h g all none = h
+  rolled s rest (Some saved) h g all none = record { memory = g; back = all; lasts = λ i. absurd (let n = none i in cc); mode = λ w. absurd (let n = none (inr w) in cc) }
+
+  undone_so : (s : State) (bs : List Block) → StandsOn m Was s → AllSaved (GoesBackTo m) bs → ((s.irrevocable ≡ true) ⊎ Was → AllSaved IsLast bs) → StandsOn m Was (undone_from s bs)
+  undone_so s [] h all lasts = h
+  undone_so s (b ∷ bs) h all lasts =
+      undone_so (rolled_back s bs b.saved) bs (rolled s bs b.saved h all.0 all.1 (λ i. (lasts i).0)) all.1
+      (subst (λ (mode : Bool). (mode ≡ true) ⊎ Was → AllSaved IsLast bs) (sym (rolled_mode s bs b.saved)) (λ i. (lasts i).1))
+
+  back_so : (s : State) (bs : List Block) → StandsOn m Was s → AllSaved (GoesBackTo m) bs → ((s.irrevocable ≡ true) ⊎ Was → AllSaved IsLast bs) → StandsOn m Was (back_from s bs)
+  back_so s [] h all lasts = h
+  back_so s (b ∷ bs) h all lasts = rolled s bs b.saved h all.0 all.1 (λ i. (lasts i).0)
+
+  written_so : (s : State) (place : ℕ) (bytes : List ℕ) → StandsOn m Was s → StandsOn m Was (written s place bytes)
   written_so s place bytes h = record {
     memory = λ e. (let n = neither s.wrote (nat_lt 0 (length bytes)) e in nothing_written s.memory place bytes n.1 ∙ h.memory n.0);
     back = h.back;
     lasts = λ i. (let l = h.lasts i in (either_left s.wrote (nat_lt 0 (length bytes)) l.0, l.1));
+    mode = h.mode;
   }
 
-  target_so : (s : State) (pair : CopyPair) (place : ℕ) (bytes : List ℕ) → StandsOn m s → StandsOn m (target_written s pair place bytes)
-  target_so s (Out to) place bytes h = written_so s place bytes h
-  target_so s (In from) place bytes h = record { memory = h.memory; back = h.back; lasts = h.lasts }
-  target_so s (Within from to) place bytes h = written_so s place bytes h
+  made_so : (s : State) → StandsOn m Was (made_irrevocable s)
+  made_so s = record { memory = λ e. absurd (cc); back = saved_none (GoesBackTo m) tt s.blocks; lasts = λ i. (refl, saved_none IsLast refl s.blocks); mode = λ w o. refl }
 
-  made_so : (s : State) → StandsOn m (made_irrevocable s)
-  made_so s = record { memory = λ e. absurd (cc); back = last_back m _ (all_last s.blocks); lasts = λ i. (refl, all_last s.blocks) }
-
-  mode_so : (s : State) → StandsOn m s → StandsOn m (irrevocable_from s)
-  mode_so s h = either s.irrevocable
-    where
-      either : (b : Bool) → StandsOn m (if b then s else made_irrevocable s)
-      either true = h
-      either false = made_so s
-
-  pushed_so : (s : State) (props : Props) → StandsOn m s → StandsOn m (pushed s props)
-  pushed_so s props h = record {
+  pushed_so : (s : State) (props : Props) → (Was → is_open s ≡ true) → StandsOn m Was s → StandsOn m Was (pushed s props)
+  pushed_so s props inside h = record {
     memory = h.memory;
     back = (either s.irrevocable, h.back);
-    lasts = λ i. ((h.lasts i).0, (ap (λ (b : Bool). if b then None else Some (kept_of s)) i, (h.lasts i).1));
+    lasts = λ i. ((h.lasts i).0, (ap (λ (b : Bool). if b then None else Some (kept_of s)) (held i), (h.lasts i).1));
+    mode = λ w e. h.mode w (inside w);
   }
     where
       either : (b : Bool) → GoesBackTo m (if b then None else Some (kept_of s))
       either true = tt
       either false = h.memory
 
-  entered_so : (s : State) (props : Props) → StandsOn m s → StandsOn m (entered s props)
-  entered_so s props h = either props.goes_irrevocable
-    where
-      either : (b : Bool) → StandsOn m (if b then irrevocable_from (pushed s props) else pushed s props)
-      either true = mode_so (pushed s props) (pushed_so s props h)
-      either false = pushed_so s props h
+      held : (s.irrevocable ≡ true) ⊎ Was → s.irrevocable ≡ true
+      held (inl e) = e
+      held (inr w) = h.mode w (inside w)
 
-  closed_so : (s : State) → StandsOn m s → StandsOn m (closed s)
-  closed_so s h = record { memory = h.memory; back = closed_back m s.blocks h.back; lasts = λ i. (let l = h.lasts (still s.blocks s.irrevocable i) in (l.0, closed_last s.blocks l.1)) }
-    where
-      still : (bs : List Block) (i : Bool) → closed_irrevocable bs i ≡ true → i ≡ true
-      still [] i e = e
-      still (b ∷ []) i e = absurd (cc)
-      still (b ∷ p ∷ bs) i e = e
+  entered_so : (s : State) (props : Props) → (Was → is_open s ≡ true) → StandsOn m Was s → StandsOn m Was (entered s props)
+  entered_so s props inside h = entered_kept (StandsOn m Was) s props (pushed_so s props inside h) (made_so (pushed s props))
 
-  undo_so : (s : State) (action : Action) → StandsOn m s → StandsOn m (with_undo s action)
-  undo_so s action h = either s.irrevocable
+  closed_so : (s : State) → StandsOn m Was s → StandsOn m Was (closed s)
+  closed_so s h = record {
+    memory = h.memory;
+    back = saved_closed (GoesBackTo m) (λ saved bytes g. g) s.blocks h.back;
+    lasts = λ i. (let l = h.lasts (before i) in (l.0, saved_closed IsLast still_last s.blocks l.1));
+    mode = λ w o. stays_irrevocable s.blocks s.irrevocable (h.mode w) o;
+  }
     where
-      either : (b : Bool) → StandsOn m (if b then s else with_action s kinds.Undo action)
-      either true = h
-      either false = record { memory = h.memory; back = h.back; lasts = h.lasts }
-
-  abort_so : (s : State) (outer : Bool) → StandsOn m s → StandsOn m (if outer then undone s else back s)
-  abort_so s true h = undone_so m s s.blocks h h.back (λ i. (h.lasts i).1)
-  abort_so s false h = back_so m s s.blocks h h.back (λ i. (h.lasts i).1)
+      before : (closed_irrevocable s.blocks s.irrevocable ≡ true) ⊎ Was → (s.irrevocable ≡ true) ⊎ Was
+      before (inl e) = inl (was_irrevocable s.blocks s.irrevocable e)
+      before (inr w) = inr w
 
   -- a call in an open transaction
-  effect_so : (s : State) (call : Call) → is_open s ≡ true → StandsOn m s → StandsOn m (effect s call)
-  effect_so s (Begin props room) o h = subst (λ (b : Bool). StandsOn m (if b then entered s props else opened s.memory s.arena props)) (sym o) (entered_so s props h)
-  effect_so s Commit o h = closed_so s h
-  effect_so s (Abort outer) o h = abort_so s outer h
-  effect_so s (Mode room) o h = mode_so s h
-  effect_so s (Write hint at value) o h = written_so s at value.bytes.items h
-  effect_so s (Log width at) o h = record { memory = h.memory; back = logged_back m s.blocks s.arena at (size_of width) h.back; lasts = λ i. ((h.lasts i).0, logged_last s.blocks s.arena at (size_of width) (h.lasts i).1) }
-  effect_so s (LogBytes at size) o h = record { memory = h.memory; back = logged_back m s.blocks s.arena at size h.back; lasts = λ i. ((h.lasts i).0, logged_last s.blocks s.arena at size (h.lasts i).1) }
-  effect_so s (Copy c) o h = target_so s c.pair c.to (source_bytes s c.pair c.from c.size) h
-  effect_so s (Fill hint to byte size) o h = written_so s to (replicate size (byte % 256)) h
-  effect_so s (CommitAction action) o h = record { memory = h.memory; back = h.back; lasts = h.lasts }
-  effect_so s (UndoAction action) o h = undo_so s action h
-  effect_so s (Save at value) o h = record { memory = h.memory; back = h.back; lasts = h.lasts }
-  effect_so s call o h = h
-
-unless_so : (S : State → Type 0) (o : Option Refusal) (old new : State) → S old → S new → S (after_unless o old new)
-unless_so S None old new h g = g
-unless_so S (Some refusal) old new h g = h
-
--- ## Calls of an irrevocable transaction
-
-fixed_written : (s : State) (place : ℕ) (bytes : List ℕ) → IsFixed s → IsFixed (written s place bytes)
-fixed_written s place bytes h = record { wrote = either_left s.wrote (nat_lt 0 (length bytes)) h.wrote; lasts = h.lasts; mode = h.mode }
-
-fixed_target : (s : State) (pair : CopyPair) (place : ℕ) (bytes : List ℕ) → IsFixed s → IsFixed (target_written s pair place bytes)
-fixed_target s (Out to) place bytes h = fixed_written s place bytes h
-fixed_target s (In from) place bytes h = record { wrote = h.wrote; lasts = h.lasts; mode = h.mode }
-fixed_target s (Within from to) place bytes h = fixed_written s place bytes h
-
-fixed_mode : (s : State) → IsFixed s → IsFixed (irrevocable_from s)
-fixed_mode s h = either s.irrevocable
-  where
-    either : (b : Bool) → IsFixed (if b then s else made_irrevocable s)
-    either true = h
-    either false = record { wrote = refl; lasts = all_last s.blocks; mode = λ o. refl }
-
-fixed_pushed : (s : State) (props : Props) → is_open s ≡ true → IsFixed s → IsFixed (pushed s props)
-fixed_pushed s props o h = record { wrote = h.wrote; lasts = (ap (λ (b : Bool). if b then None else Some (kept_of s)) (h.mode o), h.lasts); mode = λ e. h.mode o }
-
-fixed_entered : (s : State) (props : Props) → is_open s ≡ true → IsFixed s → IsFixed (entered s props)
-fixed_entered s props o h = either props.goes_irrevocable
-  where
-    either : (b : Bool) → IsFixed (if b then irrevocable_from (pushed s props) else pushed s props)
-    either true = fixed_mode (pushed s props) (fixed_pushed s props o h)
-    either false = fixed_pushed s props o h
-
-fixed_closed : (s : State) → IsFixed s → IsFixed (closed s)
-fixed_closed s h = record { wrote = h.wrote; lasts = closed_last s.blocks h.lasts; mode = λ o. still s.blocks s.irrevocable h.mode o }
-  where
-    still : (bs : List Block) (i : Bool) → (nat_lt 0 (length bs) ≡ true → i ≡ true) → nat_lt 0 (length (closed_in bs)) ≡ true → closed_irrevocable bs i ≡ true
-    still [] i mode o = mode o
-    still (b ∷ []) i mode o = absurd (cc)
-    still (b ∷ p ∷ bs) i mode o = mode (lt-ltb 0 (length (b ∷ p ∷ bs)) (omega arith))
-
-fixed_logged : (s : State) (place size : ℕ) → is_open s ≡ true → IsFixed s → IsFixed (logged s place size)
-fixed_logged s place size o h = record { wrote = h.wrote; lasts = logged_last s.blocks s.arena place size h.lasts; mode = λ e. h.mode o }
-
-fixed_undo : (s : State) (action : Action) → IsFixed s → IsFixed (with_undo s action)
-fixed_undo s action h = either s.irrevocable
-  where
-    either : (b : Bool) → IsFixed (if b then s else with_action s kinds.Undo action)
-    either true = h
-    either false = record { wrote = h.wrote; lasts = h.lasts; mode = h.mode }
-
-fixed_abort : (s : State) (outer : Bool) → IsFixed s → IsFixed (if outer then undone s else back s)
-fixed_abort s true h = subst IsFixed (sym (undone_fixed s s.blocks h.lasts)) h
-fixed_abort s false h = subst IsFixed (sym (back_fixed s s.blocks h.lasts)) h
-
-fixed_effect : (s : State) (call : Call) → is_open s ≡ true → IsFixed s → IsFixed (effect s call)
-fixed_effect s (Begin props room) o h = subst (λ (b : Bool). IsFixed (if b then entered s props else opened s.memory s.arena props)) (sym o) (fixed_entered s props o h)
-fixed_effect s Commit o h = fixed_closed s h
-fixed_effect s (Abort outer) o h = fixed_abort s outer h
-fixed_effect s (Mode room) o h = fixed_mode s h
-fixed_effect s (Write hint at value) o h = fixed_written s at value.bytes.items h
-fixed_effect s (Log width at) o h = fixed_logged s at (size_of width) o h
-fixed_effect s (LogBytes at size) o h = fixed_logged s at size o h
-fixed_effect s (Copy c) o h = fixed_target s c.pair c.to (source_bytes s c.pair c.from c.size) h
-fixed_effect s (Fill hint to byte size) o h = fixed_written s to (replicate size (byte % 256)) h
-fixed_effect s (CommitAction action) o h = record { wrote = h.wrote; lasts = h.lasts; mode = h.mode }
-fixed_effect s (UndoAction action) o h = fixed_undo s action h
-fixed_effect s (Save at value) o h = record { wrote = h.wrote; lasts = h.lasts; mode = h.mode }
-fixed_effect s call o h = h
+  changed_so : (s : State) → is_open s ≡ true → StandsOn m Was s → IsKept (StandsOn m Was) s
+  changed_so s o h = record {
+    here = h;
+    begins = λ props. subst (λ (b : Bool). StandsOn m Was (if b then entered s props else opened s.memory s.arena props)) (sym o) (entered_so s props (λ w. o) h);
+    closes = closed_so s h;
+    undoes = undone_so s s.blocks h h.back (λ i. (h.lasts i).1);
+    backs = back_so s s.blocks h h.back (λ i. (h.lasts i).1);
+    turns = made_so s;
+    writes = λ at bytes fits. written_so s at bytes h;
+    saves = λ at bytes fits. record { memory = h.memory; back = h.back; lasts = h.lasts; mode = h.mode };
+    logs = λ place size. record {
+      memory = h.memory;
+      back = saved_logged (GoesBackTo m) (λ saved bytes g. g) s.blocks s.arena place size h.back;
+      lasts = λ i. ((h.lasts i).0, saved_logged IsLast still_last s.blocks s.arena place size (h.lasts i).1);
+      mode = λ w e. h.mode w o;
+    };
+    acts = λ kind action. record { memory = h.memory; back = h.back; lasts = h.lasts; mode = h.mode };
+  }
 
 -- ## Many calls
 
@@ -272,37 +149,25 @@ abbrev pub Keeps : (State → Type 0) → Breaks → Type 0
 Keeps S breaks = (n : ℕ) (s : State) → S s → S (breaks n s)
 
 module _ (deepest : ℕ) (m : List ℕ) where
-  pub stands_after : (breaks : Breaks) → Keeps (StandsOn m) breaks → (s : State) (cs : List Call) → AllInside deepest breaks s cs → StandsOn m s → StandsOn m (state_through deepest breaks s cs)
-  stands_after breaks kept s [] i h = h
-  stands_after breaks kept s (c ∷ cs) i h =
-      stands_after (later breaks) (λ n t g. kept (suc n) t g) (breaks 1 (after deepest s c)) cs i.1 (kept 1 (after deepest s c) (unless_so (StandsOn m) (refusal deepest s c) s (effect s c) h (effect_so m s c i.0 h)))
+  pub stands_after : (Was : Type 0) (breaks : Breaks) → Keeps (StandsOn m Was) breaks → (s : State) (cs : List Call) → AllInside deepest breaks s cs → StandsOn m Was s → StandsOn m Was (state_through deepest breaks s cs)
+  stands_after Was breaks kept s [] i h = h
+  stands_after Was breaks kept s (c ∷ cs) i h =
+      stands_after Was (later breaks) (λ n t g. kept (suc n) t g) (breaks 1 (after deepest s c)) cs i.1 (kept 1 (after deepest s c) (after_kept (StandsOn m Was) s (changed_so m Was s i.0 h) deepest c))
 
   -- as it begins
-  pub stands_opened : (arena : List ℕ) (props : Props) → StandsOn m (opened m arena props)
-  stands_opened arena props = entered_so m (outside m arena) props (record { memory = λ e. refl; back = tt; lasts = λ i. absurd (cc) })
+  pub stands_opened : (arena : List ℕ) (props : Props) → StandsOn m ⊥ (opened m arena props)
+  stands_opened arena props = entered_so m ⊥ (outside m arena) props (λ w. absurd w) (record { memory = λ e. refl; back = tt; lasts = λ i. elim i [ inl e ↦ absurd (cc) | inr w ↦ absurd w ]; mode = λ w. absurd w })
 
-pub fixed_after : (deepest : ℕ) (breaks : Breaks) → Keeps IsFixed breaks → (s : State) (cs : List Call) → AllInside deepest breaks s cs → IsFixed s → IsFixed (state_through deepest breaks s cs)
-fixed_after deepest breaks kept s [] i h = h
-fixed_after deepest breaks kept s (c ∷ cs) i h =
-    fixed_after deepest (later breaks) (λ n t g. kept (suc n) t g) (breaks 1 (after deepest s c)) cs i.1 (kept 1 (after deepest s c) (unless_so IsFixed (refusal deepest s c) s (effect s c) h (fixed_effect s c i.0 h)))
-
--- once irrevocable, it has written at its end
-pub fixed_from : (m : List ℕ) (s : State) → StandsOn m s → s.irrevocable ≡ true → IsFixed s
-fixed_from m s h i = (let l = h.lasts i in record { wrote = l.0; lasts = l.1; mode = λ o. i })
+-- once it is irrevocable
+pub stands_held : (m : List ℕ) (s : State) → StandsOn m ⊥ s → s.irrevocable ≡ true → StandsOn m (Unit {0}) s
+stands_held m s h i = record { memory = h.memory; back = h.back; lasts = λ w. h.lasts (inl i); mode = λ w o. i }
 
 -- ## Blocks that run again
 
-stands_set : (m : List ℕ) (o : Option Again) (s : State) → StandsOn m s → StandsOn m (arena_set o s)
-stands_set m None s h = h
-stands_set m (Some a) s h = record { memory = h.memory; back = h.back; lasts = h.lasts }
+stands_set : (m : List ℕ) (Was : Type 0) (o : Option Again) (s : State) → StandsOn m Was s → StandsOn m Was (arena_set o s)
+stands_set m Was None s h = h
+stands_set m Was (Some a) s h = record { memory = h.memory; back = h.back; lasts = h.lasts; mode = h.mode }
 
-fixed_set : (o : Option Again) (s : State) → IsFixed s → IsFixed (arena_set o s)
-fixed_set None s h = h
-fixed_set (Some a) s h = record { wrote = h.wrote; lasts = h.lasts; mode = h.mode }
-
--- a block that runs again from another arena leaves both
-pub stands_again : (m : List ℕ) (rs : List Again) → Keeps (StandsOn m) (breaks_of rs)
-stands_again m rs n s h = stands_set m (again_at rs n) s h
-
-pub fixed_again : (rs : List Again) → Keeps IsFixed (breaks_of rs)
-fixed_again rs n s h = fixed_set (again_at rs n) s h
+-- a block that runs again from another arena leaves it so
+pub stands_again : (m : List ℕ) (Was : Type 0) (rs : List Again) → Keeps (StandsOn m Was) (breaks_of rs)
+stands_again m Was rs n s h = stands_set m Was (again_at rs n) s h

@@ -1,8 +1,7 @@
 use Rattle.std.proofs.Common.{ℕ, ◌≡◌, ◌-◌, ◌*◌, ◌/◌, ◌^◌, min, Option, IfSome, ap, arith, rules, subst, sym}
 use Rattle.tx_map.proofs.Common.{AllTell, HasOnlyPairs, told_in_all}
 use Rattle.shared_words.specs.Good.{EndsWith}
-use Rattle.tx_map.proofs.Pairs.{empty_only}
-use Rattle.tx_map.proofs.Threads.{all_added, all_commits, all_pairs, only_pairs}
+use Rattle.tx_map.{proofs.Pairs.empty_only, proofs.Threads.all_added, proofs.Threads.all_commits, proofs.Threads.all_pairs, proofs.Threads.only_pairs}
 use Rattle.tx_map.proofs.write_together.Goals as goal
 
 pub returns-in_err-joined-clause-only : goal.returns-in_err-joined-clause-only

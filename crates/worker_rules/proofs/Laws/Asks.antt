@@ -1,9 +1,9 @@
 -- A worker between its player's next call and what comes of it.
-use Rattle.std.proofs.Common.{◌≡◌, ℕ, Bool, true, false, List, refl, sym, ap, subst, ◌∙◌, inl, inr, Some, unwrap_or}
-use Rattle.worker_rules.proofs.Common.{Answer, Attempt, Begin, Begins, Bounds, Call, Course, Current, HasPlaces, IsAnswered, IsAsked, IsHungry, IsPrepared, IsReadyFor, IsRoomier, IsThreadStarved, IsUnprepared, IsWorking, LacksFor, MayStarve, Outside, Props, Rules, Savepoint, Standing, Tally, Within, Words, Worker, again_for, begins, begins_again, begun, commits_known, in_transaction, irrevocable_room, is_begin, outside, stage_at, stage_of, start_of, view_of, within}
+use Rattle.std.proofs.Common.{◌≡◌, ℕ, Bool, refl, sym, ap, subst, ◌∙◌, inl, inr, Some, unwrap_or}
+use Rattle.worker_rules.proofs.Common.{Answer, Attempt, Begins, Bounds, Call, Course, Current, HasPlaces, IsAnswered, IsAsked, IsHungry, IsPrepared, IsReadyFor, IsRoomier, IsThreadStarved, IsUnprepared, IsWorking, LacksFor, MayStarve, Outside, Props, Rules, Standing, Tally, Within, Words, Worker, again_for, begins, begins_again, begun, commits_known, irrevocable_room, stage_at, stage_of, start_of, starves_shut, view_of}
 use Rattle.tx_runs.specs.declared.player_run.PlayerRun.{PlayerRun}
-use Rattle.worker_rules.proofs.Begins.OutsideCalls.{never_starves}
-use Rattle.worker_rules.proofs.Laws.Rooms.{again_prepared, never_begins}
+use Rattle.worker_rules.proofs.Laws.Places.{none_within, open_within}
+use Rattle.worker_rules.proofs.Laws.Rooms.{again_prepared, never_begins, outside_shut}
 
 -- only the attempt at hand and the room for ended ones have changed
 abbrev pub OnlyRoom : {P : Type 0} → Worker P → Worker P → Type 0
@@ -25,23 +25,10 @@ roomier : (call : Call) (row : Props → Attempt) (ahead : ℕ) (x y : Current) 
 roomier call row ahead (Begins o) y never is = absurd (never o.row refl)
 roomier call row ahead Outside Outside never is = tt
 roomier call row ahead Outside (Begins o') never is = tt
-roomier call row ahead Outside (Within o') never is = absurd (by_call call is)
-  where
-    by_call : (x : Call) → within o'.row o'.points ≡ stage_at outside x row ahead → ⊥
-    by_call (Begin props room) e = cc
-    by_call x e = cc
-roomier call row ahead (Within o) Outside never is = absurd (cc)
-roomier call row ahead (Within o) (Begins o') never is = absurd (cc)
-roomier call row ahead (Within o) (Within o') never is = (
-  (let e = same _ _ is in e ∙ ap (λ (n : ℕ). record o.row { calls = record o.row.calls { room = n } }) (sym (ap (λ (x : Attempt). x.calls.room) e))),
-  alike _ _ is,
-)
-  where
-    same : (x : Attempt) (points : List Savepoint) → within o'.row o'.points ≡ within x points → o'.row ≡ x
-    same x points e = cc
-
-    alike : (x : Attempt) (points : List Savepoint) → within o'.row o'.points ≡ within x points → o'.points ≡ points
-    alike x points e = cc
+roomier call row ahead Outside (Within o') never is = absurd (none_within call row ahead o'.row o'.points is)
+roomier call row ahead (Within o) y never is =
+    let w = open_within y _ _ is in
+    subst (IsRoomier (Within o)) (sym w.1) (w.2 ∙ ap (λ (n : ℕ). record o.row { calls = record o.row.calls { room = n } }) (sym (ap (λ (x : Attempt). x.calls.room) w.2)), w.3)
 
 module _ {P : Type 0} {rules : Rules P} {words : Words} {c : Course P} {b : Bounds} {old mid : Worker P} {call : Call} (works : IsWorking rules words c b old) (asks : rules.next_call old.run.player ≡ Some call) (same : OnlyRoom old mid) (prepared : IsPrepared words rules old call mid) where
   abbrev opens : Props → Attempt
@@ -49,13 +36,6 @@ module _ {P : Type 0} {rules : Rules P} {words : Words} {c : Course P} {b : Boun
 
   stage_is : stage_of mid.run.current ≡ stage_at (stage_of old.run.current) call opens (unwrap_or (irrevocable_room old.thread.engine call) 0)
   stage_is = ap (λ (t : Tally P). t.stage) prepared.came
-
-  shut_is : stage_of old.run.current ≡ outside → in_transaction old.thread.engine ≡ false
-  shut_is none = by_mode (in_transaction old.thread.engine) refl
-    where
-      by_mode : (i : Bool) → in_transaction old.thread.engine ≡ i → i ≡ false
-      by_mode false i = refl
-      by_mode true i = (let some : within (works.running.inside i).row (works.running.inside i).points ≡ outside = sym (works.running.inside i).stage_is ∙ none in absurd (cc))
 
   -- memory was refused to the call itself
   pub hungry_still : (new : Worker P) (again : Bool) → new ≡ record mid { thread = new.thread } → IsThreadStarved words mid.thread call new.thread → IsHungry rules words c b old call new
@@ -72,7 +52,7 @@ module _ {P : Type 0} {rules : Rules P} {words : Words} {c : Course P} {b : Boun
           roomier = subst (λ (r : PlayerRun P). IsRoomier old.run.current r.current) (sym run) (roomier call opens (unwrap_or (irrevocable_room old.thread.engine call) 0) old.run.current mid.run.current (never_begins old works.running) stage_is);
           roomy = subst (λ (x : Worker P). HasPlaces old.thread.engine x.ended x.run.current) (sym is) (places mid.run.current prepared.ready);
           ended = ap (λ (w : Worker P). w.ended.items) is ∙ prepared.ended;
-          begins = λ none. by_begin (is_begin call) refl none;
+          begins = λ none. starves_shut old.thread.engine call works.same.stands.settled (outside_shut old works.running none) starves;
         };
         short = inr starves;
       }
@@ -84,11 +64,6 @@ module _ {P : Type 0} {rules : Rules P} {words : Words} {c : Course P} {b : Boun
       places Outside r = tt
       places (Begins o) r = tt
       places (Within o) r = (r.0, r.1)
-
-      by_begin : (x : Bool) → is_begin call ≡ x → stage_of old.run.current ≡ outside → x ≡ true
-      by_begin true i none = refl
-      by_begin false i none =
-          absurd (never_starves (start_of old.thread call false) (view_of old.thread.pass) old.thread.engine works.same.stands (shut_is none) i starves)
 
   -- it was answered
   pub answered : (new : Worker P) (answer : Answer) → new ≡ record mid { thread = new.thread } → IsAnswered words (start_of mid.thread call (again_for mid.run.current mid.run.again call)) answer new.thread.pass new.thread.engine → IsAsked rules words c b old call answer new

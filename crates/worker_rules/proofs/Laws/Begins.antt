@@ -1,11 +1,8 @@
 -- A worker before its first call.
-use Rattle.std.proofs.Common.{◌≡◌, ℕ, ◌^◌, ◌<◌, ◌≤◌, Bool, false, true≢false, List, [], ◌∷◌, length, Vec, Global, refl, sym, ap, subst, ◌∙◌, arith, append-nil}
-use Rattle.worker_rules.proofs.Common.{AreFew, AreOver, Attempt, Frame, HasRun, IsNested, IsRunning, IsWorking, Outside, Owns, Rules, Standing, Stands, Words, Worker, account_of, bounds_of, commits_known, course_of, first_account, in_transaction, is_inside, nested_outside, outrun_none, view_of, went_self, whole}
+use Rattle.std.proofs.Common.{◌≡◌, ℕ, ◌^◌, ◌<◌, ◌≤◌, Bool, false, true≢false, List, [], length, Vec, Global, refl, sym, ap, subst, ◌∙◌, arith, append-nil}
+use Rattle.worker_rules.proofs.Common.{AreFew, AreOver, Attempt, HasRun, IsNested, IsRunning, IsWorking, Outside, Owns, Rules, Standing, Stands, Words, Worker, account_of, bounds_of, commits_known, course_of, first_account, in_transaction, none_inside, outrun_none, view_of, went_self, whole}
 use Rattle.itm_types.specs.declared.limits.TheConstants.{MAX_RETRIES}
-
-none_open : (bs : List Frame) → is_inside bs ≡ false → length bs ≡ 0
-none_open [] e = refl
-none_open (b ∷ bs) e = absurd (cc)
+use Rattle.run_rules.proofs.Players.{nested_outside}
 
 module _ {P : Type 0} (rules : Rules P) (words : Words) (thread : Standing) (player : P) (number retries : ℕ) (own : Owns words thread.pass) (stands : Stands (view_of thread.pass) thread.engine) (outside : in_transaction thread.engine ≡ false) (depth : rules.depth player ≡ 0) (limit : thread.engine.restarts < 2 ^ 32) (few : retries ≤ MAX_RETRIES) where
   pub begins_bound : whole rules (in_transaction thread.engine) player ≤ rules.calls_left player
@@ -30,7 +27,7 @@ module _ {P : Type 0} (rules : Rules P) (words : Words) (thread : Standing) (pla
     tried = omega arith;
     tries = omega arith;
     nested = subst (λ (i : Bool). IsNested rules i player) (sym outside) (nested_outside rules player depth);
-    depth = depth ∙ sym (none_open thread.engine.blocks outside);
+    depth = depth ∙ sym (ap length (none_inside thread.engine.blocks outside));
     deepest = refl;
     limit = refl;
     inside = λ i. absurd (true≢false (sym i ∙ outside));

@@ -1,22 +1,33 @@
 -- Places in the open attempt for what comes of a call.
-use Rattle.std.proofs.Common.{◌≡◌, inl, inr, ℕ, suc, ◌+◌, ◌<◌, ◌≤◌, Bool, true, false, nat_lt, if◌then◌else◌, List, [], ◌∷◌, length, is_some, refl, ap, arith, ltb-false}
-use Rattle.worker_rules.proofs.Common.{Answer, Attempt, BeganBy, Begins, Between, Busy, Call, CommitAction, Committed, Conflict, Core, Current, Frame, Full, HasBlockPlaces, HaveBegun, IsOpenTry, IsPromised, IsRestart, KeepsBlockPlaces, KeepsPlaces, Kept, Most, Open, OpensBy, Outside, Ran, Reply, Restarted, Rules, Savepoint, Stand, UndoAction, Within, bounds_now, cut_back, due_at, entered_by, is_begin, is_within, opens_most, promised, registered_by, registers, reserved, stage_of, within}
+use Rattle.std.proofs.Common.{◌≡◌, inl, inr, ℕ, suc, ◌≤◌, Bool, true, false, if◌then◌else◌, List, [], ◌∷◌, length, Vec, Global, refl, ap, subst, arith}
+use Rattle.worker_rules.proofs.Common.{Answer, Attempt, Begin, Begins, Between, Call, Core, Current, Frame, HasBlockPlaces, HasPlaces, HaveBegun, IsOpenTry, IsPromised, IsRestart, KeepsBlockPlaces, KeepsPlaces, MayTell, Most, Open, OpensBy, Outside, Props, Ran, Reply, Restarted, Rules, Savepoint, Stand, Within, bounds_now, cut_back, entered_by, is_begin, is_within, opens_most, outside, promised, stage_at, stage_of, within}
 
--- ## Places
+-- ## The attempt at hand
 
--- a place is promised for the call
-pub some_room : (k : Kept) (ahead : ℕ) → 0 < (reserved k (ahead + 1)).room
-some_room k ahead = by_test (nat_lt k.room (ahead + 1)) refl
-  where
-    by_test : (b : Bool) → nat_lt k.room (ahead + 1) ≡ b → 0 < (if b then ahead + 1 else k.room)
-    by_test true e = omega arith
-    by_test false e = (let l = ltb-false k.room (ahead + 1) e in omega arith)
+-- what is so where none is open, is so if it is of the one that is open
+pub if_open : (Q : Current → Type 0) → Q Outside → ((o : Open) → Q (Begins o)) → (x : Current) → ((o : Open) → x ≡ Within o → Q (Within o)) → Q x
+if_open Q none begun Outside open_so = none
+if_open Q none begun (Begins o) open_so = begun o
+if_open Q none begun (Within o) open_so = open_so o refl
 
--- there is room for the actions after a call
-pub room_after : (call : Call) (before after room : ℕ) → before ≤ room → (is_some (registered_by call) ≡ true → before < room) → after ≤ before + registers call → after ≤ room
-room_after (CommitAction action) before after room few more l = (let m = more refl in omega arith)
-room_after (UndoAction action) before after room few more l = (let m = more refl in omega arith)
-room_after call before after room few more l = omega arith
+pub open_within : (x : Current) (row : Attempt) (points : List Savepoint) → stage_of x ≡ within row points → (o : Open) × (x ≡ Within o) × (o.row ≡ row) × (o.points ≡ points)
+open_within (Within o) row points is = (o, refl, (let same : o.row ≡ row = cc in same), (let same : o.points ≡ points = cc in same))
+open_within x row points is = absurd (cc)
+
+pub none_at : (x : Current) → stage_of x ≡ outside → x ≡ Outside
+none_at Outside is = refl
+none_at x is = absurd (cc)
+
+-- a call that comes outside opens none
+pub none_within : (call : Call) (opens : Props → Attempt) (ahead : ℕ) (row : Attempt) (points : List Savepoint) → within row points ≡ stage_at outside call opens ahead → ⊥
+none_within (Begin props room) opens ahead row points is = cc
+none_within call opens ahead row points is = cc
+
+-- there is a place to tell it in
+pub tells_in : (e : Core) (ended : Vec Attempt Global) (x : Current) → HasPlaces e ended x → MayTell x ended
+tells_in e ended (Within o) places = places.0
+tells_in e ended Outside places = tt
+tells_in e ended (Begins o) places = tt
 
 -- ## Places for blocks
 
@@ -49,10 +60,7 @@ blocks_opened call (Reply r) s ran (Within was) o back keeps had (inl h) = λ so
     one_most false = omega arith
 blocks_opened call (Reply r) s ran (Within was) o back keeps had (inr h) = absurd (let e = h.1 in cc)
 blocks_opened call (Restarted clock word) s ran x o back keeps had opens = λ some. absurd (let none = back tt in omega arith)
-blocks_opened call (Committed at wrote) s ran x o back keeps had opens = absurd opens
-blocks_opened call (Conflict clock word) s ran x o back keeps had opens = absurd opens
-blocks_opened call (Busy clock) s ran x o back keeps had opens = absurd opens
-blocks_opened call (Full at) s ran x o back keeps had opens = absurd opens
+blocks_opened call answer s ran x o back keeps had opens = absurd opens
 
 -- where an inner block is open, and the transaction may be tried again, its begin is among these
 module _ {P : Type 0} {rules : Rules P} {deepest : ℕ} {position : List ℕ} {b : Between P} {row : Attempt} {points : List Savepoint} {p : P} {e : Core} (t : IsOpenTry rules deepest position b row points p e) where
@@ -65,18 +73,15 @@ module _ {P : Type 0} {rules : Rules P} {deepest : ℕ} {position : List ℕ} {b
   pub has_points : e.irrevocable ≡ false → is_within e.blocks ≡ true → points ≡ [] → ⊥
   has_points revocable inner none = some_begun (bounds_now row e) e.blocks points inner (t.blocks revocable) none
 
--- what had come to run as the innermost block began has, with more calls in the attempt's room, and once more has come to run
-pub began_later : (points : List Savepoint) (row : Attempt) (calls : Kept) (n m : ℕ) → n ≤ m → BeganBy points row n → BeganBy points (record row { calls = calls }) m
-began_later [] row calls n m l began = tt
-began_later (s ∷ outer) row calls n m l began = (let r : due_at s row.restarts ≤ m = omega (arith, began, l) in r)
-
 -- ## Room for calls
 
 -- the attempt at hand has room for as many as are promised, at most
 pub promised_in : (e : Core) (x : Current) (row : Attempt) (points : List Savepoint) → stage_of x ≡ within row points → IsPromised e x → row.calls.room ≤ promised e
-promised_in e Outside row points is few = absurd (cc)
-promised_in e (Begins o) row points is few = absurd (cc)
-promised_in e (Within o) row points is few = (let same : o.row ≡ row = cc in let room = ap (λ (a : Attempt). a.calls.room) same in omega arith)
+promised_in e x row points is few =
+    let w = open_within x row points is in
+    let had = subst (IsPromised e) w.1 few in
+    let room = ap (λ (a : Attempt). a.calls.room) w.2 in
+    omega arith
 
 -- cut back to the begin of a block it has none
 pub cut_room : (points : List Savepoint) (arena : List ℕ) (due : List Ran) (row : Attempt) → (points ≡ [] → ⊥) → (cut_back points arena due row).calls.room ≡ 0

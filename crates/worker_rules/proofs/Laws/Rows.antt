@@ -1,49 +1,25 @@
 -- What a worker's next call makes of it.
-use Rattle.std.proofs.Common.{◌≡◌, ℕ, ◌+◌, ◌/◌, ◌<◌, ◌≤◌, Bool, true, false, true≢false, nat_lt, if◌then◌else◌, List, [], ◌∷◌, ◌++◌, length, Option, None, Some, refl, sym, ap, subst, ◌∙◌, arith, inr, unwrap_or, vec_len, vec_capacity}
-use Rattle.worker_rules.proofs.Common.{Account, Answer, AreFew, AreOver, Attempt, Begin, Begins, Bounds, Busy, Call, Committed, Conflict, Core, Course, Current, Done, End, Falls, Full, GoesOnOrStops, HasActionPlaces, HasBlockPlaces, HasPlaces, IsAsked, IsMade, IsPromised, IsReadyFor, IsRunning, IsSame, IsStopped, IsWorking, KeepsPlaces, MayStop, MayTell, Obeys, Open, OpensBy, Outcome, Outside, Owns, Props, Replied, Reply, Restarted, Rules, Savepoint, Served, Stage, Stand, Standing, Stands, Start, StopsAs, Taken, Tally, View, Within, Words, Worker, account_after, account_of, asked, begins, begins_again, bounds_of, in_transaction, irrevocable_room, is_committed, is_taken, outside, over_as, replied, restarts_left, savepoints_after, sent_back, shut_revocable, stage_of, stage_with, stand_of, start_of, tally_of, took_in, total, view_in, view_of, went_on, with_call, within, within_untold}
+use Rattle.std.proofs.Common.{◌≡◌, ℕ, ◌+◌, ◌/◌, ◌<◌, Bool, true, false, List, [], ◌∷◌, ◌++◌, length, Option, None, Some, refl, sym, ap, subst, ◌∙◌, arith, inl, inr, unwrap_or, true≢false, vec_len, vec_capacity}
+use Rattle.worker_rules.proofs.Common.{Account, Answer, AreFew, AreOver, Attempt, Begins, Bounds, Call, Committed, Core, Course, Current, End, Falls, GoesOnOrStops, HasActionPlaces, HasBlockPlaces, HasPlaces, IsAsked, IsMade, IsPromised, IsReadyFor, IsRunning, IsSame, IsStopped, IsWorking, KeepsPlaces, MayStop, MayTell, Obeys, Open, OpensBy, Outcome, Outside, Owns, Rules, Served, Stage, Stand, Standing, Stands, Start, StopsAs, Taken, Tally, View, Within, Words, Worker, account_after, account_of, asked, begins_again, begins, bounds_of, in_transaction, irrevocable_room, is_committed, is_inside, is_taken, outcome_by, outside, over_as, restarts_left, stage_of, stand_of, start_of, tally_of, took_in, view_in, view_of, within, within_untold}
 use Rattle.tx_attempts.specs.declared.attempt.Outcome.TheVariants as outcomes
 use Rattle.tx_runs.specs.declared.ending.End.TheVariants as ends
-use Rattle.worker_rules.proofs.Begins.OutermostBegins.{begins_actions, no_commit}
-use Rattle.worker_rules.proofs.Laws.Places.{blocks_opened}
-use Rattle.worker_rules.proofs.Laws.Rooms.{begins_call, held_inside, last, open_places, promises_opened, room_back, still_within}
-use Rattle.worker_rules.proofs.Machines.ActionRooms.{room_asked}
-use Rattle.worker_rules.proofs.Machines.LastEvents.{IsLast}
+use Rattle.std.proofs.lemmas.Bool.{cases_Bool}
+use Rattle.worker_rules.proofs.Laws.Places.{blocks_opened, if_open, none_at}
+use Rattle.worker_rules.proofs.Laws.Rooms.{begins_call, begun_places, last, open_places, promises_opened, room_back, still_within}
+use Rattle.worker_rules.proofs.Machines.PlainActions.{begun_none}
 use Rattle.worker_rules.proofs.Laws.Answers.{Both, both}
 
 -- what is over has ended
 over_ended : {P : Type 0} (rules : Rules P) (retries : ℕ) (t : Tally P) (call : Call) (answer : Answer) (s : Stand) → AreOver (took_in rules retries t call answer s).over
-over_ended {P} rules retries t call answer s = by_answer answer
+over_ended rules retries t call answer s = elim (is_taken call s rules retries t.player t.nth t.again t.stage answer).over [
+  | inl none ↦ subst AreOver (sym none) tt
+  | inr y ↦ subst AreOver (sym y.4) ((λ e. ended answer (sym y.6 ∙ e)), tt)
+]
   where
-    as_told : (outcome : Outcome) → (outcome ≡ outcomes.Unfinished → ⊥) → (g : Stage) → AreOver (over_as outcome s g)
-    as_told outcome never outside = tt
-    as_told outcome never (begins row) = tt
-    as_told outcome never (within row points) = (never, tt)
-
-    committed : (wrote : Bool) → (if wrote then outcomes.Committed else outcomes.ReadOnly) ≡ outcomes.Unfinished → ⊥
-    committed true e = cc
-    committed false e = cc
-
-    went : (open_still : Bool) (x : Tally P) (row : Attempt) (points : List Savepoint) → AreOver (went_on open_still x row points s).over
-    went true x row points = tt
-    went false x row points = ((λ e. cc), tt)
-
-    told : (g : Stage) (x : Tally P) (r : Replied) → AreOver (replied g x call r s).over
-    told outside x r = tt
-    told (begins row) x r = tt
-    told (within row points) x r = went s.is_open x (with_call call r row) (savepoints_after points row (record { call = call; reply = r }))
-
-    try : (b : Bool) (x : Tally P) (over : List Attempt) → AreOver over
-        → (let taken : Taken P = if b then record { tally = record x { stage = outside }; over = over; end = Some ends.GaveUp } else record { tally = record x { nth = x.nth + 1; stage = outside }; over = over; end = None } in AreOver taken.over)
-    try true x over o = o
-    try false x over o = o
-
-    by_answer : (y : Answer) → AreOver (took_in rules retries t call y s).over
-    by_answer (Reply r) = told t.stage (record t { player = rules.answered t.player r }) r
-    by_answer (Committed at wrote) = as_told (if wrote then outcomes.Committed else outcomes.ReadOnly) (committed wrote) (stage_with call Done t.stage)
-    by_answer (Conflict clock word) = try (nat_lt retries t.nth) (record t { player = sent_back rules t.stage t.player }) (over_as outcomes.Conflict s t.stage) (as_told outcomes.Conflict (λ e. cc) t.stage)
-    by_answer (Restarted clock word) = tt
-    by_answer (Busy clock) = try (nat_lt retries t.nth) t [] tt
-    by_answer (Full at) = as_told outcomes.Full (λ e. cc) t.stage
+    ended : (x : Answer) → outcome_by x ≡ outcomes.Unfinished → ⊥
+    ended (Committed at true) e = cc
+    ended (Committed at false) e = cc
+    ended x e = cc
 
 pub over_more : (xs ys : List Attempt) → AreOver xs → AreOver ys → AreOver (xs ++ ys)
 over_more [] ys o p = p
@@ -53,69 +29,22 @@ pub few_more : (most : ℕ) (xs ys : List Attempt) → AreFew most xs → AreFew
 few_more most [] ys o p = p
 few_more most (x ∷ xs) ys o p = (o.0, few_more most xs ys o.1 p)
 
+pub few_over : (most : ℕ) (outcome : Outcome) → is_committed outcome ≡ false → (s : Stand) (g : Stage) → AreFew most (over_as outcome s g)
+few_over most outcome none s (within row points) = ((λ c. absurd (true≢false (sym c ∙ none))), tt)
+few_over most outcome none s outside = tt
+few_over most outcome none s (begins row) = tt
+
 -- what is over has not committed, or stands below the limit
 pub over_few : {P : Type 0} (rules : Rules P) (retries : ℕ) (t : Tally P) (call : Call) (s : Start) (answer : Answer) (v : View) (e : Core) → Served s answer v e → AreFew s.engine.max_commits (took_in rules retries t call answer (stand_of e)).over
-over_few {P} rules retries t call s answer v e served = by_answer answer served
+over_few rules retries t call s answer v e served = elim (is_taken call (stand_of e) rules retries t.player t.nth t.again t.stage answer).over [
+  | inl none ↦ subst (AreFew s.engine.max_commits) (sym none) tt
+  | inr y ↦ subst (AreFew s.engine.max_commits) (sym y.4) ((λ c. (let at = y.7 in let l = below answer served (ap is_committed (sym y.6) ∙ c) in omega arith)), tt)
+]
   where
-    as_told : (outcome : Outcome) → (is_committed outcome ≡ true → e.snapshot / 2 < s.engine.max_commits) → (g : Stage) → AreFew s.engine.max_commits (over_as outcome (stand_of e) g)
-    as_told outcome below outside = tt
-    as_told outcome below (begins row) = tt
-    as_told outcome below (within row points) = (below, tt)
-
-    went : (open_still : Bool) (x : Tally P) (row : Attempt) (points : List Savepoint) → AreFew s.engine.max_commits (went_on open_still x row points (stand_of e)).over
-    went true x row points = tt
-    went false x row points = ((λ c. absurd (cc)), tt)
-
-    told : (g : Stage) (x : Tally P) (r : Replied) → AreFew s.engine.max_commits (replied g x call r (stand_of e)).over
-    told outside x r = tt
-    told (begins row) x r = tt
-    told (within row points) x r = went (in_transaction e) x (with_call call r row) (savepoints_after points row (record { call = call; reply = r }))
-
-    try : (b : Bool) (x : Tally P) (over : List Attempt) → AreFew s.engine.max_commits over
-        → (let taken : Taken P = if b then record { tally = record x { stage = outside }; over = over; end = Some ends.GaveUp } else record { tally = record x { nth = x.nth + 1; stage = outside }; over = over; end = None } in AreFew s.engine.max_commits taken.over)
-    try true x over o = o
-    try false x over o = o
-
-    commits : (at : ℕ) (wrote : Bool) → Served s (Committed at wrote) v e → is_committed (if wrote then outcomes.Committed else outcomes.ReadOnly) ≡ true → e.snapshot / 2 < s.engine.max_commits
-    commits at true served c = (let l = served.tells.few refl in let is = served.tells.closes.at_is in omega arith)
-    commits at false served c = absurd (cc)
-
-    by_answer : (y : Answer) → Served s y v e → AreFew s.engine.max_commits (took_in rules retries t call y (stand_of e)).over
-    by_answer (Reply r) served = told t.stage (record t { player = rules.answered t.player r }) r
-    by_answer (Committed at wrote) served = as_told (if wrote then outcomes.Committed else outcomes.ReadOnly) (commits at wrote served) (stage_with call Done t.stage)
-    by_answer (Conflict clock word) served = try (nat_lt retries t.nth) (record t { player = sent_back rules t.stage t.player }) (over_as outcomes.Conflict (stand_of e) t.stage) (as_told outcomes.Conflict (λ c. absurd (cc)) t.stage)
-    by_answer (Restarted clock word) served = tt
-    by_answer (Busy clock) served = try (nat_lt retries t.nth) t [] tt
-    by_answer (Full at) served = as_told outcomes.Full (λ c. absurd (cc)) t.stage
-
--- an accepted begin leaves no action
-begins_none : (s : Start) (v : View) (e : Core) (answer : Answer) → Stands s.view s.engine → in_transaction s.engine ≡ false → (props : Props) (room : ℕ) → s.call ≡ Begin props room → Served s answer v e → in_transaction e ≡ true → total e.actions ≡ 0
-begins_none s v e (Reply r) before shut props room is served now = ap total (begins_actions s v e before shut props room is r served now)
-begins_none s v e (Committed at wrote) before shut props room is served now = absurd (no_commit s v e shut at wrote served)
-begins_none s v e (Conflict clock word) before shut props room is served now = absurd (true≢false (sym now ∙ served.tells.closes.closed))
-begins_none s v e (Restarted clock word) before shut props room is served now = absurd (true≢false (sym served.tells.still.0 ∙ shut))
-begins_none s v e (Busy clock) before shut props room is served now = absurd (true≢false (sym now ∙ served.tells.closes.closed))
-begins_none s v e (Full at) before shut props room is served now = absurd (true≢false (sym now ∙ served.tells.closes.closed))
-
--- of one that goes irrevocable each commit action for which it asks finds a place
-begun_places : {P : Type 0} {rules : Rules P} {words : Words} {c : Course P} {b : Bounds} {old new : Worker P} {call : Call} {answer : Answer} (k : IsAsked rules words c b old call answer new) (o : Open) → new.run.current ≡ Begins o
-    → IsReadyFor old.thread.engine call (unwrap_or (irrevocable_room old.thread.engine call) 0) new.ended (Begins o) → new.thread.engine.irrevocable ≡ true → (total new.thread.engine.actions + new.thread.engine.room ≤ o.ends) × (total new.thread.engine.actions + new.thread.engine.room ≤ o.cancels)
-begun_places {old = old} {new = new} {call = call} {answer = answer} k o is ready held = by_answer answer k.answered.served (last k)
-  where
-    by_answer : (x : Answer) → Served (start_of old.thread call (begins_again (stage_of old.run.current) old.run.again call)) x (view_in new) new.thread.engine → IsLast (start_of old.thread call (begins_again (stage_of old.run.current) old.run.again call)) (view_in new) x new.thread.engine
-        → (total new.thread.engine.actions + new.thread.engine.room ≤ o.ends) × (total new.thread.engine.actions + new.thread.engine.room ≤ o.cancels)
-    by_answer (Reply r) served came =
-        let begin = begins_call k o is in
-        let none = begins_none (start_of old.thread call (begins_again (stage_of old.run.current) old.run.again call)) (view_in new) new.thread.engine (Reply r) k.works.same.stands begin.3 begin.0 begin.1 begin.2 served (held_inside k held) in
-        let asked = room_asked (start_of old.thread call (begins_again (stage_of old.run.current) old.run.again call)) (view_in new) new.thread.engine k.works.same.stands r served came (shut_revocable old.thread.engine k.works.same.stands.settled begin.3) held in
-        let ends = ready.1 in
-        let cancels = ready.2 in
-        (omega arith, omega arith)
-    by_answer (Committed at wrote) served came = absurd (true≢false (sym (held_inside k held) ∙ served.tells.closes.closed))
-    by_answer (Conflict clock word) served came = absurd (true≢false (sym (held_inside k held) ∙ served.tells.closes.closed))
-    by_answer (Restarted clock word) served came = absurd (true≢false (sym held ∙ served.tells.revocable.1))
-    by_answer (Busy clock) served came = absurd (true≢false (sym (held_inside k held) ∙ served.tells.closes.closed))
-    by_answer (Full at) served came = absurd (true≢false (sym (held_inside k held) ∙ served.tells.closes.closed))
+    below : (x : Answer) → Served s x v e → is_committed (outcome_by x) ≡ true → e.snapshot / 2 < s.engine.max_commits
+    below (Committed at true) served c = (let l = served.tells.few refl in let is = served.tells.closes.at_is in omega arith)
+    below (Committed at false) served c = absurd (cc)
+    below x served c = absurd (cc)
 
 -- what the worker is after it
 pub record Took_in {P : Type 0} (rules : Rules P) (call : Call) (answer : Answer) (mid : Worker P) (end : Option End) (new : Worker P) : Type 0 where
@@ -197,24 +126,19 @@ module _ {P : Type 0} {rules : Rules P} (laws : Obeys rules) {words : Words} {c 
   places_as x y i j = subst (λ (z : Current × Current). KeepsPlaces mid.thread.engine.actions.ran z.0 z.1) (λ h. (i h, j h)) t.places
 
   roomy_now : in_transaction mid.thread.engine ≡ true → HasPlaces mid.thread.engine new.ended new.run.current
-  roomy_now now = by_current new.run.current refl
+  roomy_now now = if_open (HasPlaces mid.thread.engine new.ended) tt (λ o. tt) new.run.current (λ o' is. within_so o' is mid.run.current refl)
     where
       within_so : (o' : Open) → new.run.current ≡ Within o' → (x : Current) → mid.run.current ≡ x → HasPlaces mid.thread.engine new.ended (Within o')
       within_so o' is Outside was = absurd (places_as Outside (Within o') was is)
       within_so o' is (Begins o) was =
           let begin = begins_call k o was in
-          let none = begins_none (start_of old.thread call (begins_again (stage_of old.run.current) old.run.again call)) (view_in mid) mid.thread.engine answer k.works.same.stands begin.3 begin.0 begin.1 begin.2 k.answered.served now in
+          let none = begun_none k.works.same.stands (last k) (ap is_inside (last k).is_mid.kept.blocks ∙ begin.3) now in
           (place_still o' is (ready_as (Begins o) was).0, (let z = none in omega arith))
       within_so o' is (Within o) was =
           let ready = ready_as (Within o) was in
-          let still = still_within k o was ready in
+          let still = still_within k o was in
           let same = (places_as (Within o) (Within o') was is).0 in
           (place_still o' is ready.0, omega arith)
-
-      by_current : (y : Current) → new.run.current ≡ y → HasPlaces mid.thread.engine new.ended y
-      by_current Outside is = tt
-      by_current (Begins o) is = tt
-      by_current (Within o') is = within_so o' is mid.run.current refl
 
   -- the attempt that is open then is so by the answer
   opens_now : (o' : Open) → new.run.current ≡ Within o' → OpensBy (stage_of mid.run.current) call answer (stand_of mid.thread.engine) o'.row o'.points
@@ -222,41 +146,25 @@ module _ {P : Type 0} {rules : Rules P} (laws : Obeys rules) {words : Words} {c 
 
   -- there is room for as many calls as are promised, at most
   promises_now : IsPromised mid.thread.engine new.run.current
-  promises_now = by_current new.run.current refl
-    where
-      by_current : (y : Current) → new.run.current ≡ y → IsPromised mid.thread.engine y
-      by_current Outside is = tt
-      by_current (Begins o) is = tt
-      by_current (Within o') is = promises_opened k answer k.answered.served (last k) mid.run.current refl o' (opens_now o' is)
+  promises_now = if_open (IsPromised mid.thread.engine) tt (λ o. tt) new.run.current (λ o' is. promises_opened k answer k.answered.served (last k) o' (opens_now o' is))
 
   -- and each of them finds a place for a block
   blocks_now : HasBlockPlaces new.run.current
-  blocks_now = by_current new.run.current refl
-    where
-      by_current : (y : Current) → new.run.current ≡ y → HasBlockPlaces y
-      by_current Outside is = tt
-      by_current (Begins o) is = tt
-      by_current (Within o') is =
-          let opened = opens_now o' is in
-          blocks_opened call answer (stand_of mid.thread.engine) mid.thread.engine.actions.ran mid.run.current o' (λ back. room_back k answer k.answered.served back mid.run.current refl o' opened) (places_as mid.run.current (Within o') refl is) k.prepared.blocks opened
+  blocks_now = if_open HasBlockPlaces tt (λ o. tt) new.run.current (λ o' is. (let opened = opens_now o' is in
+      blocks_opened call answer (stand_of mid.thread.engine) mid.thread.engine.actions.ran mid.run.current o' (λ back. room_back k answer k.answered.served back o' opened) (places_as mid.run.current (Within o') refl is) k.prepared.blocks opened))
 
   -- and each commit action that an irrevocable transaction may still register
   actions_now : HasActionPlaces mid.thread.engine new.run.current
-  actions_now = by_current new.run.current refl
+  actions_now = if_open (HasActionPlaces mid.thread.engine) tt (λ o. tt) new.run.current (λ o' is. within_so o' is mid.run.current refl)
     where
       within_so : (o' : Open) → new.run.current ≡ Within o' → (x : Current) → mid.run.current ≡ x → HasActionPlaces mid.thread.engine (Within o')
       within_so o' is Outside was = absurd (places_as Outside (Within o') was is)
       within_so o' is (Begins o) was =
           let places = places_as (Begins o) (Within o') was is in
-          λ held some. (let had = begun_places k o was (ready_as (Begins o) was) held in let a = had.0 in let b = had.1 in (omega arith, omega arith))
+          λ held some. (let had = begun_places k o was held some in let a = had.0 in let b = had.1 in (omega arith, omega arith))
       within_so o' is (Within o) was =
           let places = places_as (Within o) (Within o') was is in
-          λ held some. (let had = open_places k o was (ready_as (Within o) was) held some in let a = had.0 in let b = had.1 in let same = places.1 had.2 in (omega arith, omega arith))
-
-      by_current : (y : Current) → new.run.current ≡ y → HasActionPlaces mid.thread.engine y
-      by_current Outside is = tt
-      by_current (Begins o) is = tt
-      by_current (Within o') is = within_so o' is mid.run.current refl
+          λ held some. (let had = open_places k o was held some in let a = had.0 in let b = had.1 in let same = places.1 had.2 in (omega arith, omega arith))
 
   -- ## It goes on, or it has stopped
 
@@ -264,16 +172,10 @@ module _ {P : Type 0} {rules : Rules P} (laws : Obeys rules) {words : Words} {c 
   goes none = subst (IsRunning rules c (view_in mid) mid.thread.engine) (sym account_is) ((asked_both laws k).0 none).0
 
   roomy_after : TookIn.end ≡ None → HasPlaces mid.thread.engine new.ended new.run.current
-  roomy_after none = by_open (in_transaction mid.thread.engine) refl
-    where
-      nowhere : (y : Current) → new.run.current ≡ y → (in_transaction mid.thread.engine ≡ false) → HasPlaces mid.thread.engine new.ended y
-      nowhere Outside is shut = tt
-      nowhere (Begins o) is shut = tt
-      nowhere (Within o) is shut = (let stage : outside ≡ within o.row o.points = sym ((goes none).outside shut).stage_is ∙ ap stage_of is in absurd (cc))
-
-      by_open : (i : Bool) → in_transaction mid.thread.engine ≡ i → HasPlaces mid.thread.engine new.ended new.run.current
-      by_open true now = roomy_now now
-      by_open false shut = nowhere new.run.current refl shut
+  roomy_after none = elim (cases_Bool (in_transaction mid.thread.engine)) [
+    | inl now ↦ roomy_now now
+    | inr shut ↦ if_open (HasPlaces mid.thread.engine new.ended) tt (λ o. tt) new.run.current (λ o is. absurd (let stage = sym ((goes none).outside shut).stage_is ∙ ap stage_of is in cc))
+  ]
 
   works_on : end ≡ None → IsWorking rules words c b new
   works_on is = (let none : TookIn.end ≡ None = sym end_told ∙ is in record {
@@ -294,18 +196,10 @@ module _ {P : Type 0} {rules : Rules P} (laws : Obeys rules) {words : Words} {c 
       let here : FallsTo c.retries c.restarts mid.thread.engine new.run.nth new.run.player = subst (λ (x : Tally P). FallsTo c.retries c.restarts mid.thread.engine x.nth x.player) (sym tally_is) falls in
       subst (λ (x : ℕ × ℕ × Standing). FallsTo x.0 x.1 x.2.engine new.run.nth new.run.player) (λ i. (sym k.works.same.retries i, sym k.works.running.limit i, sym t.thread i)) here
 
-  none_open : stage_of new.run.current ≡ outside → new.run.current ≡ Outside
-  none_open is = by_current new.run.current is
-    where
-      by_current : (x : Current) → stage_of x ≡ outside → x ≡ Outside
-      by_current Outside is = refl
-      by_current (Begins o) is = absurd (cc)
-      by_current (Within o) is = absurd (cc)
-
   stops_so : (shuts : Bool) (last : End) → end ≡ Some last → IsStopped rules words c b shuts last old new
   stops_so shuts last is =
       let over = (asked_both laws k).1 last (sym end_told ∙ is) in
-      let shut : new.run.current ≡ Outside = none_open (ap (λ (x : Account P). x.stage) account_is ∙ over.stage) in
+      let shut : new.run.current ≡ Outside = none_at new.run.current (ap (λ (x : Account P). x.stage) account_is ∙ over.stage) in
       let made : IsMade words rules old.run.thread old.run.retries (account_of old) old.thread (Some last) (account_of new) new.thread = subst (λ (x : Option End). IsMade words rules old.run.thread old.run.retries (account_of old) old.thread x (account_of new) new.thread) is is_made in
       record {
         same = same_now;

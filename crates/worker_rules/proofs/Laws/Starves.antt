@@ -1,11 +1,12 @@
 -- A worker to whose player's next call memory was refused.
 use Rattle.std.proofs.Common.{◌≡◌, ◌/◌, Bool, true, false, true≢false, if◌then◌else◌, List, ◌++◌, ◌≤◌, length, length-append, refl, sym, ap, subst, ◌∙◌, arith}
-use Rattle.worker_rules.proofs.Common.{Account, AreFew, AreOver, Attempt, Begins, Bounds, Call, Commit, Core, Course, Current, HasPlaces, Idle, IsHungry, IsRoomier, IsSame, IsStopped, IsToldBy, MayStop, MayTell, Open, Outside, Owns, Ran, Rules, RunsOn, Stage, Standing, Stands, Within, Words, Worker, account_of, after_undoing, begins, bounds_of, in_transaction, outside, over_as, rolled_back, stage_of, stand_of, start_of, told_in, total, undone_of, view_of, within}
+use Rattle.worker_rules.proofs.Common.{Account, AreFew, AreOver, Attempt, Bounds, Call, Commit, Core, Course, Current, HasPlaces, Idle, IsHungry, IsRoomier, IsSame, IsStopped, IsToldBy, MayStop, MayTell, Open, Outside, Owns, Ran, Rules, RunsOn, Stage, Standing, Stands, Within, Words, Worker, account_of, after_undoing, begins, bounds_of, in_transaction, outside, over_as, rolled_back, stage_of, stand_of, start_of, told_in, total, undone_of, view_of, within}
 use Rattle.norec_core.specs.declared.answer.Undone.TheVariants.{Done, Held, Nothing}
 use Rattle.tx_attempts.specs.declared.attempt.Outcome.TheVariants as outcomes
 use Rattle.tx_runs.specs.declared.ending.End.TheVariants as ends
+use Rattle.worker_rules.proofs.Laws.Places.{if_open, tells_in}
 use Rattle.worker_rules.proofs.Laws.Rooms.{same_over, within_inside}
-use Rattle.worker_rules.proofs.Laws.Rows.{few_more, over_more}
+use Rattle.worker_rules.proofs.Laws.Rows.{few_more, few_over, over_more}
 use Rattle.worker_rules.proofs.Laws.Shortages.{used_here}
 use Rattle.worker_rules.proofs.Machines.PlainActions.{given_up_runs}
 
@@ -25,19 +26,13 @@ module _ {P : Type 0} {rules : Rules P} {words : Words} {c : Course P} {b : Boun
   told_is o' is = by_old old.run.current refl (subst (IsRoomier old.run.current) is k.unprepared.roomier)
     where
       by_old : (x : Current) → old.run.current ≡ x → IsRoomier x (Within o') → told_in o'.row ≡ length old.thread.engine.actions.ran
-      by_old Outside was r = absurd r
-      by_old (Begins o) was r = absurd r
       by_old (Within o) was r =
           let inside = within_inside old k.works.running o.row o.points (ap stage_of was) in
           ap told_in r.0 ∙ (ap told_in (sym inside.1) ∙ sym (k.works.running.inside inside.0).try.is_open.due)
+      by_old x was r = absurd r
 
   pub told_by : IsToldBy self.thread.engine.actions.ran self.run.current
-  told_by = by_current self.run.current refl
-    where
-      by_current : (x : Current) → self.run.current ≡ x → IsToldBy self.thread.engine.actions.ran x
-      by_current Outside is = tt
-      by_current (Begins o) is = tt
-      by_current (Within o) is = (let told = told_is o is in let same = ap (λ (t : Standing). length t.engine.actions.ran) k.thread in let r : told_in o.row ≤ length self.thread.engine.actions.ran = omega arith in r)
+  told_by = if_open (IsToldBy self.thread.engine.actions.ran) tt (λ o. tt) self.run.current (λ o is. (let told = told_is o is in let same = ap (λ (t : Standing). length t.engine.actions.ran) k.thread in let r : told_in o.row ≤ length self.thread.engine.actions.ran = omega arith in r))
 
 module _ {P : Type 0} {rules : Rules P} {words : Words} {c : Course P} {b : Bounds} {old self : Worker P} {call : Call} (k : IsHungry rules words c b old call self) (thread : Standing) (engine : thread.engine ≡ after_undoing self.thread.engine) (pass : thread.pass ≡ self.thread.pass) where
   abbrev e : Core
@@ -85,28 +80,16 @@ module _ {P : Type 0} {rules : Rules P} {words : Words} {c : Course P} {b : Boun
     runs = given_up_runs (start_of old.thread Commit false) thread.engine k.works.same.stands revocable engine_is
 
     pub may_stop : MayStop (thread.engine.snapshot / 2) thread.engine.actions.ran self.run.current
-    may_stop = by_current self.run.current refl
-      where
-        by_current : (x : Current) → self.run.current ≡ x → MayStop (thread.engine.snapshot / 2) thread.engine.actions.ran x
-        by_current Outside is = tt
-        by_current (Begins o) is = tt
-        by_current (Within o) is =
-            let told = told_is k o is in
-            let places = subst (HasPlaces old.thread.engine self.ended) is roomy in
-            let f = runs in
-            let most = f.most in
-            let longer = ap (length {A = Ran}) f.ran ∙ length-append old.thread.engine.actions.ran f.later in (
-              (let r : told_in o.row ≤ length thread.engine.actions.ran = omega arith in r),
-              (let room = places.1 in omega arith),
-            )
+    may_stop = if_open (MayStop (thread.engine.snapshot / 2) thread.engine.actions.ran) tt (λ o. tt) self.run.current
+        (λ o is. (let told = told_is k o is in
+        let places = subst (HasPlaces old.thread.engine self.ended) is roomy in
+        let most = runs.most in
+        let room = places.1 in
+        let longer = ap (length {A = Ran}) runs.ran ∙ length-append old.thread.engine.actions.ran runs.later in
+        (omega arith, omega arith)))
 
     pub may_tell : MayTell self.run.current self.ended
-    may_tell = by_current self.run.current refl
-      where
-        by_current : (x : Current) → self.run.current ≡ x → MayTell x self.ended
-        by_current Outside is = tt
-        by_current (Begins o) is = tt
-        by_current (Within o) is = (subst (HasPlaces old.thread.engine self.ended) is roomy).0
+    may_tell = tells_in old.thread.engine self.ended self.run.current roomy
 
     pub starves : (shuts : Bool) → Stands (view_of thread.pass) thread.engine → (new : Worker P) → new.thread ≡ thread → new.run ≡ record self.run { current = Outside } → new.ended.items ≡ self.ended.items ++ over_as outcomes.NoMemory (stand_of thread.engine) (stage_of self.run.current)
         → IsStopped rules words c b shuts ends.NoMemory old new
@@ -117,7 +100,7 @@ module _ {P : Type 0} {rules : Rules P} {words : Words} {c : Course P} {b : Boun
         let shut : new.run.current ≡ Outside = ap (λ (r : _). r.current) run in
         let here : old.ended.items ++ over ≡ left.ended = ap (λ (t : Standing). old.ended.items ++ over_as outcomes.NoMemory (stand_of t.engine) (stage_of old.run.current)) (sym is) in
         record {
-          same = same_with stands new is (ap (λ (r : _). r.thread) run ∙ ap (λ (r : _). r.thread) k.run) (ap (λ (r : _). r.retries) run ∙ ap (λ (r : _). r.retries) k.run) (subst AreOver (sym ended_is) (over_more old.ended.items over k.works.same.over (ended_over (stage_of old.run.current)))) (subst (AreFew b.max_commits) (sym ended_is) (few_more b.max_commits old.ended.items over k.works.same.below (ended_few (stage_of old.run.current))));
+          same = same_with stands new is (ap (λ (r : _). r.thread) run ∙ ap (λ (r : _). r.thread) k.run) (ap (λ (r : _). r.retries) run ∙ ap (λ (r : _). r.retries) k.run) (subst AreOver (sym ended_is) (over_more old.ended.items over k.works.same.over (ended_over (stage_of old.run.current)))) (subst (AreFew b.max_commits) (sym ended_is) (few_more b.max_commits old.ended.items over k.works.same.below (few_over b.max_commits outcomes.NoMemory refl (stand_of thread.engine) (stage_of old.run.current))));
           left = left;
           stops = record {
             call = call;
@@ -130,7 +113,7 @@ module _ {P : Type 0} {rules : Rules P} {words : Words} {c : Course P} {b : Boun
             over = λ r. refl;
           };
           over = subst AreOver here (over_more old.ended.items over k.works.same.over (ended_over (stage_of old.run.current)));
-          below = subst (AreFew b.max_commits) here (few_more b.max_commits old.ended.items over k.works.same.below (ended_few (stage_of old.run.current)));
+          below = subst (AreFew b.max_commits) here (few_more b.max_commits old.ended.items over k.works.same.below (few_over b.max_commits outcomes.NoMemory refl (stand_of thread.engine) (stage_of old.run.current)));
           told_is = (λ i. (ended_is ∙ here) i ++ over_as outcomes.Unfinished (stand_of new.thread.engine) (stage_of (shut i)));
           may_stop = subst (MayStop (new.thread.engine.snapshot / 2) new.thread.engine.actions.ran) (sym shut) tt;
           may_tell = subst (λ (x : Current). MayTell x new.ended) (sym shut) tt;
@@ -140,11 +123,6 @@ module _ {P : Type 0} {rules : Rules P} {words : Words} {c : Course P} {b : Boun
         ended_over outside = tt
         ended_over (begins row) = tt
         ended_over (within row points) = ((λ e. cc), tt)
-
-        ended_few : (g : Stage) → AreFew b.max_commits (over_as outcomes.NoMemory (stand_of thread.engine) g)
-        ended_few outside = tt
-        ended_few (begins row) = tt
-        ended_few (within row points) = ((λ c. absurd (cc)), tt)
 
   -- ## It stays, with the clock held
 
@@ -169,22 +147,11 @@ module _ {P : Type 0} {rules : Rules P} {words : Words} {c : Course P} {b : Boun
         over = k.works.same.over;
         below = k.works.same.below;
         told_is = (λ i. k.unprepared.ended i ++ same_over outcomes.Unfinished (stand_of thread.engine) old.run.current self.run.current k.unprepared.roomier i);
-        may_stop = by_current still self.run.current refl;
-        may_tell = tells self.run.current refl;
+        may_stop = if_open (MayStop (thread.engine.snapshot / 2) thread.engine.actions.ran) tt (λ o. tt) self.run.current
+            (λ o is. (let told = told_is k o is in
+            let same = ap (λ (x : Core). length x.actions.ran) still in
+            let all = ap (λ (x : Core). total x.actions) still in
+            let room = (subst (HasPlaces old.thread.engine self.ended) is roomy).1 in
+            (omega arith, omega arith)));
+        may_tell = tells_in old.thread.engine self.ended self.run.current roomy;
       }
-    where
-      by_current : thread.engine ≡ old.thread.engine → (x : Current) → self.run.current ≡ x → MayStop (thread.engine.snapshot / 2) thread.engine.actions.ran x
-      by_current still Outside is = tt
-      by_current still (Begins o) is = tt
-      by_current still (Within o) is =
-          let told = told_is k o is in
-          let same = ap (λ (x : Core). length x.actions.ran) still in
-          let places = subst (HasPlaces old.thread.engine self.ended) is roomy in (
-            (let r : told_in o.row ≤ length thread.engine.actions.ran = omega arith in r),
-            (let room = places.1 in let all = ap (λ (x : Core). total x.actions) still in omega arith),
-          )
-
-      tells : (x : Current) → self.run.current ≡ x → MayTell x self.ended
-      tells Outside is = tt
-      tells (Begins o) is = tt
-      tells (Within o) is = (subst (HasPlaces old.thread.engine self.ended) is roomy).0

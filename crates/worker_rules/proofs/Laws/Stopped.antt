@@ -1,30 +1,21 @@
 -- A worker that stops where it stands, and one whose calls are counted.
 use Rattle.std.proofs.Common.{◌≡◌, inl, inr, ℕ, ◌+◌, ◌/◌, Bool, false, true≢false, length, Option, None, Some, refl, sym, ap, subst, ◌∙◌, arith}
-use Rattle.worker_rules.proofs.Common.{Account, Begins, Bounds, Course, Current, End, GoesOnOrStops, GoesOnOrStopsAt, HasPlaces, IsSame, IsStopped, IsWorking, MayStop, MayTell, Outside, Rules, Standing, StopsAs, StopsAt, Within, Words, Worker, account_of, stage_of, told_in}
+use Rattle.worker_rules.proofs.Common.{Account, Bounds, Course, End, GoesOnOrStops, GoesOnOrStopsAt, HasPlaces, IsSame, IsStopped, IsWorking, MayStop, MayTell, Rules, Standing, StopsAs, StopsAt, Words, Worker, account_of, stage_of, told_in}
 use Rattle.tx_runs.specs.declared.ending.End.TheVariants.{Finished, GaveUp, NoMemory}
 use Rattle.worker_rules.specs.Gates.{Gating, IsLet, call_number}
+use Rattle.worker_rules.proofs.Laws.Places.{if_open, tells_in}
 use Rattle.worker_rules.proofs.Laws.Rooms.{within_inside}
 
 module _ {P : Type 0} {rules : Rules P} {words : Words} {c : Course P} {b : Bounds} {w : Worker P} (k : IsWorking rules words c b w) where
   pub may_stop_here : MayStop (w.thread.engine.snapshot / 2) w.thread.engine.actions.ran w.run.current
-  may_stop_here = by_current w.run.current refl
-    where
-      by_current : (x : Current) → w.run.current ≡ x → MayStop (w.thread.engine.snapshot / 2) w.thread.engine.actions.ran x
-      by_current Outside is = tt
-      by_current (Begins o) is = tt
-      by_current (Within o) is =
-          let inside = within_inside w k.running o.row o.points (ap stage_of is) in
-          let told : told_in o.row ≡ length w.thread.engine.actions.ran = ap told_in (sym inside.1) ∙ sym (k.running.inside inside.0).try.is_open.due in
-          let places = subst (HasPlaces w.thread.engine w.ended) is k.roomy in
-          (omega (arith, told), (let room = places.1 in omega arith))
+  may_stop_here = if_open (MayStop (w.thread.engine.snapshot / 2) w.thread.engine.actions.ran) tt (λ o. tt) w.run.current
+      (λ o is. (let inside = within_inside w k.running o.row o.points (ap stage_of is) in
+      let told : told_in o.row ≡ length w.thread.engine.actions.ran = ap told_in (sym inside.1) ∙ sym (k.running.inside inside.0).try.is_open.due in
+      let room = (subst (HasPlaces w.thread.engine w.ended) is k.roomy).1 in
+      (omega (arith, told), omega arith)))
 
   pub may_tell_here : MayTell w.run.current w.ended
-  may_tell_here = by_current w.run.current refl
-    where
-      by_current : (x : Current) → w.run.current ≡ x → MayTell x w.ended
-      by_current Outside is = tt
-      by_current (Begins o) is = tt
-      by_current (Within o) is = (subst (HasPlaces w.thread.engine w.ended) is k.roomy).0
+  may_tell_here = tells_in w.thread.engine w.ended w.run.current k.roomy
 
   abbrev pub stops_here : (shuts : Bool) (end : End) → StopsAs words rules w.run.thread w.run.retries shuts end (account_of w) w.thread (account_of w) w.thread → IsStopped rules words c b shuts end w w
   stops_here shuts end stops = record { same = k.same; left = account_of w; stops = stops; over = k.same.over; below = k.same.below; told_is = refl; may_stop = may_stop_here; may_tell = may_tell_here }

@@ -1,16 +1,12 @@
 -- A call that wants the clock.
-use Rattle.std.proofs.Common.{◌≡◌, ◌&&◌, Bool, true, false, not, nat_lt, length, Some, refl, sym, true≢false}
-use Rattle.worker_rules.proofs.Common.{Begin, Call, Commit, Core, IsSettled, Mode, WantsClock, in_transaction, may_go, stays_revocable}
+use Rattle.std.proofs.Common.{◌≡◌, ◌&&◌, true, false, not, nat_lt, length, Some, sym, true≢false}
+use Rattle.worker_rules.proofs.Common.{Begin, Call, Commit, Core, IsSettled, Mode, WantsClock, false_from_ne_true, in_transaction, may_go, stays_revocable}
 use Rattle.run_rules.proofs.ClockCalls.{both_true, no_true, told_under}
 pub use Rattle.run_rules.proofs.ClockCalls.{wants_taking}
 
 -- an irrevocable transaction wants it no more
 pub wants_revocable : (c : Core) → IsSettled c → (call : Call) → WantsClock c (Some call) → c.irrevocable ≡ false
-wants_revocable c settled Commit w = by_mode c.irrevocable refl
-  where
-    by_mode : (b : Bool) → c.irrevocable ≡ b → b ≡ false
-    by_mode true i = absurd (w.1 (settled.irrevocable i).1)
-    by_mode false i = refl
+wants_revocable c settled Commit w = false_from_ne_true c.irrevocable (λ i. w.1 (settled.irrevocable i).1)
 wants_revocable c settled (Mode room) w = no_true c.irrevocable (both_true (in_transaction c && not (stays_revocable c.blocks)) _ (told_under (in_transaction c && not (stays_revocable c.blocks) && not c.irrevocable) room w)).1
 wants_revocable c settled (Begin props room) w =
     no_true c.irrevocable

@@ -1,16 +1,14 @@
 -- The last event of a driven call: the engine with the call that came, or with the value of its last step, and its answer.
-use Rattle.std.proofs.Common.{◌≡◌, ℕ, suc, ◌≤◌, true, false, List, [], ◌∷◌, ◌++◌, Option, Some, inl, inr, sym, ap, subst, ◌∙◌, arith, append-nil}
-use Rattle.worker_rules.proofs.Common.{Answer, Core, Ends, IsHanded, IsMid, IsOver, IsRestart, LogRow, Proceeds, Stands, Start, View, both, came, handed_is, handed_to, in_transaction, is_inside, rests}
+use Rattle.std.proofs.Common.{◌≡◌, ℕ, ◌≤◌, true, false, List, [], ◌∷◌, ◌++◌, Some, inl, inr, sym, ap, subst, ◌∙◌, arith, append-nil}
+use Rattle.worker_rules.proofs.Common.{Answer, Answers, Asks, Core, Ends, IsHanded, IsMid, IsOver, IsRestart, LogRow, Proceeds, Stands, Start, View, both, came, handed_is, handed_to, in_transaction, is_inside, rests}
 use Rattle.itm_types.specs.declared.step.Step.{Step}
-use Rattle.norec_core.specs.declared.answer.Next.{Next}
-use Rattle.norec_core.specs.declared.answer.Next.TheVariants.{Step as Asks, Answer as Answers}
-use Rattle.norec_core.specs.Moves.{IsCalled, IsResumed}
+use Rattle.norec_core.{specs.declared.answer.Next.Next, specs.Moves.IsCalled, specs.Moves.IsResumed}
 use Rattle.shared_words.specs.Steps.{StepTells}
 use Rattle.call_rules.specs.Drives.{Drives, IsDriven, LeadsOn}
 use Rattle.call_rules.specs.InCall.{InCall, IsDue}
 use Rattle.call_rules.proofs.Steps.HandedValues.{hands}
 use Rattle.call_rules.proofs.Steps.NewCalls.{comes}
-use Rattle.call_rules.proofs.Steps.StepChains.{goes, starts}
+use Rattle.call_rules.proofs.Steps.StepChains.{goes, over_so, starts, went}
 
 -- the answer comes of this engine; unless a block goes back, no row of its log is gone, and the snapshot does not fall
 pub record IsLast (s : Start) (v : View) (a : Answer) (e : Core) : Type 0 where
@@ -37,15 +35,8 @@ module _ (cells : ℕ) (s : Start) (v w : View) (e new : Core) (step : Step) (n 
   handed : IsHanded e mid
   handed = handed_is e step n
 
-  over_so : IsOver (suc e.words) w
-  over_so =
-      let x = over.size in
-      let y = i.tied.over.size in
-      let same : cells ≡ suc e.words = omega arith in
-      subst (λ (k : ℕ). IsOver k w) same over_now
-
   ends_so : Ends mid a new
-  ends_so = subst (λ (x : Next). Proceeds mid x new) is (subst (λ (o : Option Step). Proceeds (handed_to e o n) next new) i.waits r.proceeds)
+  ends_so = subst (λ (x : Next). Proceeds mid x new) is (went cells v w over over_now e new step n turn next r s i)
 
   counted : (IsRestart a → ⊥) → new.restarted ≡ e.restarted
   counted whole = (rests mid new a ends_so).restarted whole ∙ handed.keeps.restarted
@@ -54,7 +45,7 @@ module _ (cells : ℕ) (s : Start) (v w : View) (e new : Core) (step : Step) (n 
   last_step : IsLast s w a new
   last_step = record {
     mid = mid;
-    is_mid = hands s v e n new r.joins r.settled r.asks w over_so step i turn;
+    is_mid = hands s v e n new r.joins r.settled r.asks w (over_so cells v w e over i.tied over_now) step i turn;
     ends = ends_so;
     log = λ whole o free. elim (r.joins.log o) [
       | inl same ↦ ([], same ∙ (sym handed.log ∙ sym (append-nil mid.log)))

@@ -1,11 +1,11 @@
 -- A run over commits that were seen later, and with one attempt more.
-use Rattle.std.proofs.Common.{◌≡◌, ℕ, zero, suc, ◌+◌, ◌≤◌, Bool, true, false, if◌then◌else◌, List, [], ◌∷◌, ◌++◌, length, take, Some, refl, sym, ap, ◌∙◌, ◌*◌, ◌<◌, arith, length-append}
-use Rattle.worker_rules.proofs.Common.{AreLeft, AreOver, AreOwn, AreSince, Attempt, Between, Course, HasRun, IsLeft, IsTryAt, Rules, View, Went, after_try, alone, begins_at, bytes_at, bytes_of, is_committed, known_after, known_by, memory_of, now_at, outrun_later, outrun_more, positions}
+use Rattle.std.proofs.Common.{◌≡◌, ℕ, suc, ◌+◌, ◌≤◌, Bool, true, false, if◌then◌else◌, List, [], ◌∷◌, ◌++◌, length, Some, refl, sym, ap, ◌∙◌, ◌*◌, ◌<◌, arith, length-append}
+use Rattle.worker_rules.proofs.Common.{AreLeft, AreOwn, AreSince, Attempt, Between, Course, HasRun, IsLeft, IsTryAt, Rules, View, Went, after_try, alone, begins_at, bytes_at, bytes_of, is_committed, known_after, known_by, memory_of, now_at, outrun_later, outrun_more, positions, went_on}
+use Rattle.std.proofs.lemmas.List.{take-append-le}
 use Rattle.shared_words.specs.Commits.{StartsWith, after, memory_at}
-use Rattle.call_rules.proofs.LaterViews.{went_on}
 use Rattle.tx_runs.proofs.RunLists.{run_more, run_still}
 use Rattle.run_rules.proofs.RestartLists.{few_more}
-use Rattle.tx_attempts.specs.declared.attempt.Outcome.TheVariants.{Conflict, Unfinished}
+use Rattle.tx_attempts.specs.declared.attempt.Outcome.TheVariants.{Conflict}
 
 -- ## Memories
 
@@ -18,13 +18,8 @@ pub record IsLater (v w : View) : Type 0 where
 pub later_of : (v w : View) → Went v w → IsLater v w
 later_of v w went = record { base = went.base; grows = went.grows; high = went.high }
 
-first : {A : Type 0} (xs ys : List A) (n : ℕ) → n ≤ length xs → take n (xs ++ ys) ≡ take n xs
-first xs ys zero l = refl
-first [] ys (suc n) l = absurd (omega arith)
-first {A} (x ∷ xs) ys (suc n) l = ap (λ (zs : List A). x ∷ zs) (first xs ys n (omega arith))
-
 pub memory_in : (v w : View) → IsLater v w → (k : ℕ) → k ≤ length v.seen → memory_of w k ≡ memory_of v k
-memory_in v w l k few = (λ i. memory_at (l.base i) (l.grows.1 i) k) ∙ ap (after v.base) (first v.seen l.grows.0 k few)
+memory_in v w l k few = (λ i. memory_at (l.base i) (l.grows.1 i) k) ∙ ap (after v.base) (take-append-le k v.seen l.grows.0 few)
 
 pub bytes_in : (v w : View) → IsLater v w → (k : ℕ) → k ≤ length v.seen → bytes_at w k ≡ bytes_at v k
 bytes_in v w l k few = ap bytes_of (memory_in v w l k few)
@@ -49,12 +44,6 @@ all_left_in deepest v w later (x ∷ xs) l = (λ c. left_in deepest v w later x 
 pub memory_later : (v w : View) → Went v w → (k : ℕ) → k ≤ length v.seen → memory_of w k ≡ memory_of v k
 memory_later v w went = memory_in v w (later_of v w went)
 
-pub bytes_later : (v w : View) → Went v w → (k : ℕ) → k ≤ length v.seen → bytes_at w k ≡ bytes_at v k
-bytes_later v w went = bytes_in v w (later_of v w went)
-
-pub seen_later : (v w : View) → Went v w → length v.seen ≤ length w.seen
-seen_later v w went = seen_in v w (later_of v w went)
-
 -- ## One attempt more
 
 left_more : (deepest : ℕ) (v : View) (xs : List Attempt) (a : Attempt) → AreLeft deepest v xs → (is_committed a.outcome ≡ true → IsLeft deepest v a) → AreLeft deepest v (xs ++ a ∷ [])
@@ -68,10 +57,6 @@ since_more known (x ∷ xs) a s e = (s.0, since_more (known_by x) xs a s.1 e)
 pub known_more : (known : ℕ) (xs : List Attempt) (a : Attempt) → known_after known (xs ++ a ∷ []) ≡ known_by a
 known_more known [] a = refl
 known_more known (x ∷ xs) a = known_more (known_by x) xs a
-
-pub over_more : (xs : List Attempt) (a : Attempt) → AreOver xs → (a.outcome ≡ Unfinished → ⊥) → AreOver (xs ++ a ∷ [])
-over_more [] a o h = (h, tt)
-over_more (x ∷ xs) a o h = (o.0, over_more xs a o.1 h)
 
 own_more : (thread tries : ℕ) (xs : List Attempt) (a : Attempt) → AreOwn thread tries xs → a.thread ≡ thread → a.nth ≤ tries → AreOwn thread tries (xs ++ a ∷ [])
 own_more thread tries [] a o t n = (t, n, tt)
@@ -89,10 +74,11 @@ module _ {P : Type 0} (rules : Rules P) (c : Course P) where
   -- over the commits of a later view
   pub run_later : (v w : View) → Went v w → (xs : List Attempt) → HasRun rules c v xs → HasRun rules c w xs × (now_at rules c w xs ≡ now_at rules c v xs)
   run_later v w went xs h =
-      let more = seen_later v w went in
+      let l = later_of v w went in
+      let more = seen_in v w l in
       let known = h.known in
-      let still = run_still rules c.depth (length v.seen) (length w.seen) (bytes_at v) (bytes_at w) more (bytes_later v w went) (Some c.first) xs h.run in (
-        record { went = went_on c.view v w h.went went; run = still.0; left = all_left_in c.depth v w (later_of v w went) xs h.left; since = h.since; known = omega arith; own = h.own; few = h.few; outrun = outrun_later v.high w.high went.high xs h.outrun },
+      let still = run_still rules c.depth (length v.seen) (length w.seen) (bytes_at v) (bytes_at w) more (bytes_in v w l) (Some c.first) xs h.run in (
+        record { went = went_on c.view v w h.went went; run = still.0; left = all_left_in c.depth v w l xs h.left; since = h.since; known = omega arith; own = h.own; few = h.few; outrun = outrun_later v.high w.high went.high xs h.outrun },
         still.1,
       )
 

@@ -1,23 +1,16 @@
 -- The open attempt's block ends with its last call.
-use Rattle.std.proofs.Common.{◌≡◌, ℕ, suc, ◌/◌, ◌<◌, ◌≤◌, Bool, true, false, if◌then◌else◌, List, [], ◌∷◌, ◌++◌, length, map, Some, refl, sym, true≢false, ap, subst, ◌∙◌, arith, append_assoc}
-use Rattle.worker_rules.proofs.Common.{Account, Actions, Attempt, CallRecord, ClosedBy, Core, Course, EndsAs, HasRun, IsMadeAlone, IsRunning, IsTryAt, MayRead, Obeys, Outcome, Ran, Replied, Rules, Stands, Start, State, View, Went, after, after_try, alone, answered_all, begin_code, bytes_at, closes_as, closing_left, commits_known, depth_after, follows, in_transaction, is_committed, is_done, is_open, memory_of, now_at, positions, ran_closes, ran_on, reply, reply_as, stands_for, stood, telling, try_closes}
-use Rattle.tx_attempts.proofs.AloneCalls.{player_snoc}
+use Rattle.std.proofs.Common.{◌≡◌, ℕ, suc, ◌/◌, ◌<◌, ◌≤◌, Bool, true, false, if◌then◌else◌, List, [], ◌∷◌, ◌++◌, length, Some, refl, sym, true≢false, ap, subst, ◌∙◌, arith, append_assoc}
+use Rattle.worker_rules.proofs.Common.{Account, Actions, Attempt, ClosedBy, Core, Course, EndsAs, HasRun, IsMadeAlone, IsRunning, IsTryAt, MayRead, Obeys, Outcome, Ran, Replied, Rules, Stands, Start, State, View, Went, after, after_try, alone, bytes_at, closes_as, closing_after, closing_left, commits_known, in_transaction, is_committed, is_done, is_open, memory_of, now_at, positions, ran_closes, ran_on, reply, reply_as, stands_for, stood, telling, try_closes}
 use Rattle.tx_attempts.specs.declared.attempt.Outcome.TheVariants as outcomes
 use Rattle.worker_rules.proofs.Runs.LaterCommits.{known_more, positions_more}
-use Rattle.worker_rules.proofs.Runs.OpenRuns.{depth_now, ends_told, led, made_open, nested_now, open_whole, run_ended, stood_whole, whole}
-use Rattle.worker_rules.proofs.Shapes.{closed, ended_at, row_with}
+use Rattle.worker_rules.proofs.Runs.LaterRuns.{runs_outside}
+use Rattle.worker_rules.proofs.Runs.OpenRuns.{ends_told, led, made_open, open_whole, run_ended, stood_whole, whole}
+use Rattle.worker_rules.proofs.Shapes.{RunsTo, closed, ended_at, row_with}
 
 -- ## An outcome with which a block is over
 
 never_full : (outcome : Outcome) → is_done outcome ≡ true → outcome ≡ outcomes.Full → ⊥
 never_full outcome done full = true≢false (sym done ∙ ap is_done full)
-
-follows_done : {P : Type 0} (rules : Rules P) (deepest : ℕ) (outcome : Outcome) (p : P) (a : Attempt) (s : State) → is_done outcome ≡ true
-    → follows rules deepest outcome p a s ≡ Some (record { player = answered_all rules.answered p (map (λ (x : CallRecord). x.reply) a.calls.list); arena = s.arena; again = false; tries = 0 })
-follows_done rules deepest outcomes.Committed p a s e = refl
-follows_done rules deepest outcomes.ReadOnly p a s e = refl
-follows_done rules deepest outcomes.Cancelled p a s e = refl
-follows_done rules deepest outcome p a s e = absurd (true≢false (sym e))
 
 module _ {P : Type 0} {rules : Rules P} (laws : Obeys rules) (c : Course P) (s : Start) (t : Account P) (v : View) (e : Core) (running : IsRunning rules c s.view s.engine t) (before : Stands s.view s.engine) (went : Went s.view v)
     (asks : rules.next_call t.player ≡ Some s.call) (inside : in_transaction s.engine ≡ true) (r : Replied) (read : MayRead s.view s.engine (memory_of v (e.snapshot / 2)))
@@ -38,9 +31,6 @@ module _ {P : Type 0} {rules : Rules P} (laws : Obeys rules) (c : Course P) (s :
     pub newer : e.snapshot / 2 ≤ length v.seen
     pub leaves : is_committed outcome ≡ true → (e.snapshot / 2 < length v.seen) × (bytes_at v (suc (e.snapshot / 2)) ≡ last.memory)
     pub mine : v.mine ≡ s.view.mine ++ (if is_committed outcome then e.snapshot / 2 ∷ [] else [])
-    pub depth : length e.blocks ≡ depth_after (length s.engine.blocks) s.call r
-    pub deepest : e.depth ≡ s.engine.depth
-    pub limit : e.restarts ≡ s.engine.restarts
     pub clock : (if is_committed outcome then suc (e.snapshot / 2) else e.snapshot / 2) ≤ commits_known v
 
   module _ (outcome : Outcome) (closes : Closes outcome) where
@@ -94,33 +84,18 @@ module _ {P : Type 0} {rules : Rules P} (laws : Obeys rules) (c : Course P) (s :
 
     now_closed : now_at rules c v (t.ended ++ final ∷ []) ≡ Some (record { player = rules.answered t.player r; arena = e.arena; again = false; tries = 0 })
     now_closed =
-        let h = running.inside inside in
-        let first : P = rules.answered h.try.is_open.of_block.start.player (begin_code h.between.again) in
-        let player : answered_all rules.answered first (map (λ (x : CallRecord). x.reply) (h.row.calls.list ++ record { call = s.call; reply = r } ∷ [])) ≡ rules.answered t.player r =
-        player_snoc rules.answered first h.row.calls.list (record { call = s.call; reply = r }) ∙ ap (λ (q : P). rules.answered q r) (sym h.try.is_open.of_block.player) in
-        let arena : (alone c.depth (bytes_at v (e.snapshot / 2)) final).arena ≡ e.arena = ap (λ (x : State). x.arena) left_last ∙ sym closes.arena in
-        run_closed.1 ∙ (follows_done rules c.depth outcome first final (alone c.depth (bytes_at v (e.snapshot / 2)) final) closes.done
-        ∙ (λ i. Some (record { player = player i; arena = arena i; again = false; tries = 0 })))
+        run_closed.1 ∙ (closing_after laws c.depth (running.inside inside).try.is_open.of_block (bytes_at v (e.snapshot / 2)) s.call r made asks replied_led 0 (e.snapshot / 2) outcome ran_now (bytes_at v) refl closes.done
+        ∙ (λ i. Some (record { player = rules.answered t.player r; arena = (ap (λ (x : State). x.arena) last_led ∙ sym closes.arena) i; again = false; tries = 0 })))
 
-    pub closes_running : IsRunning rules c v e (closed t (rules.answered t.player r) (ended_at outcome (e.snapshot / 2) e.actions.ran (row_with 0 s.call r (running.inside inside).row)))
+    pub closes_running : RunsTo rules c v e (closed t (rules.answered t.player r) (ended_at outcome (e.snapshot / 2) e.actions.ran (row_with 0 s.call r (running.inside inside).row)))
     closes_running =
         let own : List ℕ = if is_committed outcome then e.snapshot / 2 ∷ [] else [] in
-        record {
-          has_run = run_closed.0;
-          mine = closes.mine ∙ (ap (λ (ps : List ℕ). ps ++ own) running.mine ∙ (append_assoc c.view.mine (positions t.ended) own ∙ ap (λ (ps : List ℕ). c.view.mine ++ ps) (sym (positions_more t.ended final))));
-          tried = omega arith;
-          tries = omega arith;
-          nested = nested_now rules laws t.player s.call r asks s.engine e running.depth closes.depth running.nested;
-          depth = depth_now rules laws t.player s.call r asks s.engine e running.depth closes.depth;
-          deepest = closes.deepest ∙ running.deepest;
-          limit = closes.limit ∙ running.limit;
-          inside = λ o. absurd (true≢false (sym o ∙ closes.shut));
-          outside = λ o. record {
-            between = record { player = rules.answered t.player r; arena = e.arena; again = false; tries = 0 };
-            stage_is = refl;
-            now_is = now_closed;
-            known = (let k = known_more c.known t.ended final in let l = closes.clock in omega arith);
-            before = record { calls = 0; leads = (refl, refl); again = refl; tries = omega arith };
-            looked = (let looks = run_closed.0.went.looks in omega arith);
-          };
-        }
+        let mine : v.mine ≡ c.view.mine ++ positions (t.ended ++ final ∷ []) = closes.mine ∙ (ap (λ (ps : List ℕ). ps ++ own) running.mine ∙ (append_assoc c.view.mine (positions t.ended) own ∙ ap (λ (ps : List ℕ). c.view.mine ++ ps) (sym (positions_more t.ended final)))) in
+        runs_outside (run_closed.0, mine) closes.shut (record {
+          between = record { player = rules.answered t.player r; arena = e.arena; again = false; tries = 0 };
+          stage_is = refl;
+          now_is = now_closed;
+          known = (let k = known_more c.known t.ended final in let l = closes.clock in omega arith);
+          before = record { calls = 0; leads = (refl, refl); again = refl; tries = omega arith };
+          looked = (let looks = run_closed.0.went.looks in omega arith);
+        })

@@ -1,37 +1,17 @@
 -- A run whose open attempt is over, or is told as it stands.
 use Rattle.std.proofs.Common.{◌≡◌, ℕ, suc, ◌+◌, ◌*◌, ◌/◌, ◌<◌, ◌≤◌, Bool, true, false, if◌then◌else◌, List, [], ◌∷◌, ◌++◌, length, Some, refl, sym, true≢false, ap, subst, ◌∙◌, arith, append-nil}
-use Rattle.worker_rules.proofs.Common.{Account, Attempt, Call, Core, Course, EndsAs, Frame, HasRun, IsDeep, IsLeft, IsMadeAlone, IsNested, IsRunning, IsTryAt, LacksClock, MayRead, Obeys, Outcome, Ran, ReadsFrom, Replied, Rules, Stands, State, View, Went, after_try, alone, alone_led, begin_code, begins_at, breaks_of, bytes_at, bytes_of, depth_after, in_transaction, is_committed, is_done, is_inside, is_open, known_by, made_alone, memory_of, now_at, opened, plays, positions, ran_of, ran_on, ran_stays, ran_stops, stands_for, stood, stops_as, telling, told_so, try_of_room, try_stops, undone, whole_then}
+use Rattle.worker_rules.proofs.Common.{Account, Attempt, Core, Course, EndsAs, HasRun, IsLeft, IsMadeAlone, IsRunning, IsTryAt, LacksClock, MayRead, Obeys, Outcome, Ran, ReadsFrom, Rules, Stands, State, View, Went, after_try, alone, alone_led, begin_code, begins_at, breaks_of, bytes_at, bytes_of, in_transaction, is_committed, is_done, is_open, known_by, made_alone, memory_of, now_at, opened, positions, ran_of, ran_on, ran_stays, ran_stops, stands_for, stood, stops_as, telling, told_so, try_of_room, try_stops, undone, whole_then}
 use Rattle.tx_attempts.specs.Alone.{state_then}
 use Rattle.tx_attempts.specs.declared.attempt.Outcome.TheVariants as outcomes
 use Rattle.worker_rules.proofs.Runs.LaterCommits.{positions_more, run_later, run_with}
 use Rattle.worker_rules.proofs.Machines.PlainStates.{stands_open}
-use Rattle.worker_rules.proofs.Shapes.{ended_at}
-
--- ## The player after a reply
-
-deep_of : (bs : List Frame) → IsDeep (is_inside bs) (length bs)
-deep_of [] = refl
-deep_of (b ∷ bs) = omega arith
-
-module _ {P : Type 0} (rules : Rules P) (laws : Obeys rules) (p : P) (call : Call) (r : Replied) (asks : rules.next_call p ≡ Some call) (old new : Core) (depth : rules.depth p ≡ length old.blocks) (now : length new.blocks ≡ depth_after (length old.blocks) call r) where
-  pub depth_now : rules.depth (rules.answered p r) ≡ length new.blocks
-  depth_now = laws.nests p call r asks ∙ (ap (λ (n : ℕ). depth_after n call r) depth ∙ sym now)
-
-  pub nested_now : IsNested rules (in_transaction old) p → IsNested rules (in_transaction new) (rules.answered p r)
-  nested_now nested =
-      (plays rules laws p call r asks (in_transaction old) (in_transaction new) nested
-      (subst (IsDeep (in_transaction new)) (now ∙ ap (λ (n : ℕ). depth_after n call r) (sym depth)) (deep_of new.blocks))).nested
+use Rattle.worker_rules.proofs.Shapes.{RanTo, ended_at}
 
 -- ## Outcomes
 
 pub not_committed : (outcome : Outcome) → is_done outcome ≡ false → is_committed outcome ≡ false
 not_committed outcomes.Committed e = absurd (true≢false e)
-not_committed outcomes.ReadOnly e = refl
-not_committed outcomes.Cancelled e = refl
-not_committed outcomes.Conflict e = refl
-not_committed outcomes.Full e = refl
-not_committed outcomes.NoMemory e = refl
-not_committed outcomes.Unfinished e = refl
+not_committed outcome e = refl
 
 -- one that did not commit has no position
 pub positions_same : (xs : List Attempt) (a : Attempt) → is_committed a.outcome ≡ false → positions (xs ++ a ∷ []) ≡ positions xs
@@ -40,12 +20,7 @@ positions_same xs a e = positions_more xs a ∙ (ap (λ (b : Bool). positions xs
 -- what is told as run does not say how an attempt ended
 pub ends_told : (outcome : Outcome) (s : State) (ran : List Ran) → EndsAs outcome s → EndsAs outcome (telling s ran)
 ends_told outcomes.Committed s ran e = e
-ends_told outcomes.ReadOnly s ran e = e
-ends_told outcomes.Cancelled s ran e = e
-ends_told outcomes.Conflict s ran e = e
-ends_told outcomes.Full s ran e = e
-ends_told outcomes.NoMemory s ran e = e
-ends_told outcomes.Unfinished s ran e = e
+ends_told outcome s ran e = e
 
 -- ## The open attempt
 
@@ -118,18 +93,17 @@ module _ {P : Type 0} {rules : Rules P} (laws : Obeys rules) (c : Course P) (t :
   -- ## Without a commit
 
   module _ (k : ℕ) (outcome : Outcome) (due : List Ran) (stops : is_done outcome ≡ false) (read : MayRead u e (memory_of v k)) where
-    pub stop_ended : EndsAs outcome (stands_for e (stood e.irrevocable u (memory_of v k))) → ran_on (running.inside inside).row.ran (running.inside inside).row.restarts due ≡ ran_of outcome (led (bytes_at v k))
+    pub stopped : v.mine ≡ u.mine → EndsAs outcome (stands_for e (stood e.irrevocable u (memory_of v k))) → ran_on (running.inside inside).row.ran (running.inside inside).row.restarts due ≡ ran_of outcome (led (bytes_at v k))
         → (running.inside inside).row.began + length (running.inside inside).row.restarts ≤ k → k ≤ length v.seen → (outcome ≡ outcomes.Conflict → 2 * k < v.high)
         → (outcome ≡ outcomes.Full → LacksClock rules c.depth (rules.answered (running.inside inside).try.is_open.of_block.start.player (begin_code (running.inside inside).between.again)) (running.inside inside).row (bytes_at v k))
-        → HasRun rules c v (t.ended ++ ended_at outcome k due (running.inside inside).row ∷ [])
+        → RanTo rules c v (t.ended ++ ended_at outcome k due (running.inside inside).row ∷ [])
         × (now_at rules c v (t.ended ++ ended_at outcome k due (running.inside inside).row ∷ []) ≡ after_try rules c.depth (bytes_at v) (running.inside inside).between (Some (running.inside inside).try.is_open.of_block.start) (ended_at outcome k due (running.inside inside).row))
-    stop_ended ends ran_is older newer outrun full =
+    stopped same ends ran_is older newer outrun full =
         let h = running.inside inside in
         let none = not_committed outcome stops in
         let ends_led : EndsAs outcome (led (bytes_at v k)) = subst (EndsAs outcome) (sym (led_told (memory_of v k) read)) (ends_told outcome (whole (memory_of v k)) h.row.ran (subst (EndsAs outcome) (stood_whole (memory_of v k) read) ends)) in
-        run_ended (ended_at outcome k due h.row)
-        (try_of_room laws c.depth (length v.seen) (bytes_at v) h.between h.try.is_open.of_block.start (record h.row { at = k; ran = ran_on h.row.ran h.row.restarts due; outcome = outcome }) 0 (try_stops laws c.depth h.try.is_open.of_block (length v.seen) (bytes_at v) k outcome (ran_on h.row.ran h.row.restarts due) stops (made_open (memory_of v k) read) ends_led older newer ran_is full))
-        (λ committed. absurd (true≢false (sym committed ∙ none))) (subst (λ (b : Bool). (if b then suc k else k) ≤ length v.seen) (sym none) newer) refl refl refl refl outrun
-
-    pub stop_mine : v.mine ≡ u.mine → v.mine ≡ c.view.mine ++ positions (t.ended ++ ended_at outcome k due (running.inside inside).row ∷ [])
-    stop_mine same = same ∙ (running.mine ∙ ap (λ (ps : List ℕ). c.view.mine ++ ps) (sym (positions_same t.ended (ended_at outcome k due (running.inside inside).row) (not_committed outcome stops))))
+        let mine : v.mine ≡ c.view.mine ++ positions (t.ended ++ ended_at outcome k due h.row ∷ []) = same ∙ (running.mine ∙ ap (λ (ps : List ℕ). c.view.mine ++ ps) (sym (positions_same t.ended (ended_at outcome k due h.row) none))) in
+        let ran = run_ended (ended_at outcome k due h.row)
+        (try_of_room laws c.depth (length v.seen) (bytes_at v) h.between h.try.is_open.of_block.start (record h.row { at = k; ran = ran_on h.row.ran h.row.restarts due; outcome = outcome }) 0 (try_stops laws c.depth h.try.is_open.of_block (length v.seen) (bytes_at v) k (bytes_at v k) refl outcome (ran_on h.row.ran h.row.restarts due) stops (made_open (memory_of v k) read) ends_led older newer ran_is full))
+        (λ committed. absurd (true≢false (sym committed ∙ none))) (subst (λ (b : Bool). (if b then suc k else k) ≤ length v.seen) (sym none) newer) refl refl refl refl outrun in
+        ((ran.0, mine), ran.1)

@@ -1,14 +1,16 @@
 -- The open attempt ends without its block, or is told as it stands.
-use Rattle.std.proofs.Common.{◌≡◌, ℕ, ◌/◌, ◌≤◌, Bool, true, false, List, [], ◌∷◌, ◌++◌, length, map, Option, Some, refl, sym, true≢false, ap, subst, ◌∙◌, arith, if◌then◌else◌}
-use Rattle.worker_rules.proofs.Common.{Account, Actions, Agrees, Answer, CallRecord, Conflict, Core, Course, Full, HasRun, Idle, IsMemory, IsNested, IsRunning, IsUndone, LacksClock, MayRead, Obeys, Ran, Rules, Served, Stands, Start, State, View, Went, after, after_try, after_undoing, alone, answered_all, begin_code, bytes_at, closes_as, in_transaction, is_memory, lacks_clock, memory_of, nested_outside, none_inside, now_at, positions, reply, rolled_back, stands_for, stood, takes_clock, telling, undone, went_self}
+use Rattle.std.proofs.Common.{◌≡◌, ℕ, ◌/◌, ◌≤◌, Bool, true, false, List, [], ◌∷◌, ◌++◌, length, map, Option, Some, refl, sym, ap, subst, ◌∙◌, arith, if◌then◌else◌}
+use Rattle.worker_rules.proofs.Common.{Account, Actions, Agrees, Answer, Conflict, Core, Course, Full, Idle, IsMemory, IsRunning, IsUndone, LacksClock, MayRead, Obeys, Ran, Rules, Served, Stands, Start, State, View, Went, after, after_try, after_undoing, alone, answered_all, begin_code, bytes_at, closes_as, in_transaction, is_memory, lacks_clock, memory_of, now_at, reply, rolled_back, stands_for, stood, takes_clock, telling, undone, went_self}
 use Rattle.tx_attempts.specs.declared.attempt.Outcome.TheVariants as outcomes
 use Rattle.run_rules.proofs.GivenUp.{given_up_as}
 use Rattle.worker_rules.proofs.Machines.ClockCalls.{wants_revocable, wants_taking}
-use Rattle.worker_rules.proofs.Runs.OpenRuns.{alone_told, arena_given_up, led, led_told, made_open, open_whole, ran_given_up, ran_standing, stood_whole, stop_ended, stop_mine, whole}
+use Rattle.worker_rules.proofs.Runs.OpenRuns.{alone_told, arena_given_up, led, led_told, made_open, open_whole, ran_given_up, ran_standing, stood_whole, stopped, whole}
 use Rattle.worker_rules.proofs.Runs.EarlierReads.{position_read}
 use Rattle.worker_rules.proofs.Runs.LaterCommits.{known_more}
+use Rattle.worker_rules.proofs.Runs.LaterRuns.{runs_outside}
 use Rattle.worker_rules.proofs.Machines.PlainStates.{may_here, stands_actions, stands_arena, stands_mode, stands_open}
-use Rattle.worker_rules.proofs.Shapes.{ended_at, tried}
+use Rattle.worker_rules.proofs.Shapes.{RanTo, RunsTo, ended_at, tried}
+use Rattle.tx_attempts.specs.declared.attempt.CallRecord.{CallRecord}
 
 -- ## By an answer
 
@@ -35,53 +37,36 @@ module _ {P : Type 0} {rules : Rules P} (laws : Obeys rules) (c : Course P) (s :
     conflict_read : MayRead s.view s.engine (memory_of v (e.snapshot / 2))
     conflict_read = position_read s v e before stands inside (Conflict clock word) served (served.tells.closes.agrees inside)
 
-    conflict_ended : HasRun rules c v (t.ended ++ ended_at outcomes.Conflict (e.snapshot / 2) e.actions.ran (running.inside inside).row ∷ [])
+    conflict_stopped : RanTo rules c v (t.ended ++ ended_at outcomes.Conflict (e.snapshot / 2) e.actions.ran (running.inside inside).row ∷ [])
         × (now_at rules c v (t.ended ++ ended_at outcomes.Conflict (e.snapshot / 2) e.actions.ran (running.inside inside).row ∷ [])
         ≡ after_try rules c.depth (bytes_at v) (running.inside inside).between (Some (running.inside inside).try.is_open.of_block.start) (ended_at outcomes.Conflict (e.snapshot / 2) e.actions.ran (running.inside inside).row))
-    conflict_ended =
+    conflict_stopped =
         let m : List ℕ = stood s.engine.irrevocable s.view position in
         let late = served.tells.closes.late inside in
         let began = (running.inside inside).try.is_open.began in
-        stop_ended laws c t s.view v s.engine running before inside served.went (e.snapshot / 2) outcomes.Conflict e.actions.ran refl conflict_read
+        stopped laws c t s.view v s.engine running before inside served.went (e.snapshot / 2) outcomes.Conflict e.actions.ran refl conflict_read served.mine
         (stands_open s.engine m inside, stands_mode s.engine m ∙ served.tells.revocable)
         (ran_given_up laws c t s.view v s.engine running before inside served.went position conflict_read e.actions.ran (ran_undone (Conflict clock word) served served.tells.revocable served.tells.undone) outcomes.Conflict refl (λ x. absurd (cc))) (omega arith) served.tells.closes.seen (λ lost. (let later = served.tells.later in let clock = served.tells.clock_is in let known = stands.over.high in omega arith)) (λ f. absurd (cc))
 
-    conflict_mine : v.mine ≡ c.view.mine ++ positions (t.ended ++ ended_at outcomes.Conflict (e.snapshot / 2) e.actions.ran (running.inside inside).row ∷ [])
-    conflict_mine = stop_mine laws c t s.view v s.engine running before inside served.went (e.snapshot / 2) outcomes.Conflict e.actions.ran refl conflict_read served.mine
-
-    pub conflict_run : HasRun rules c v (t.ended ++ ended_at outcomes.Conflict (e.snapshot / 2) e.actions.ran (running.inside inside).row ∷ [])
-        × (v.mine ≡ c.view.mine ++ positions (t.ended ++ ended_at outcomes.Conflict (e.snapshot / 2) e.actions.ran (running.inside inside).row ∷ []))
-    conflict_run = (conflict_ended.0, conflict_mine)
+    pub conflict_run : RanTo rules c v (t.ended ++ ended_at outcomes.Conflict (e.snapshot / 2) e.actions.ran (running.inside inside).row ∷ [])
+    conflict_run = conflict_stopped.0
 
     -- its player goes back to its begin, and the next try is to come
-    pub conflicts : t.nth ≤ c.retries → IsRunning rules c v e (tried t (rules.restarted t.player) (t.ended ++ ended_at outcomes.Conflict (e.snapshot / 2) e.actions.ran (running.inside inside).row ∷ []))
-    conflicts may =
+    pub conflicts : RunsTo rules c v e (tried t (rules.restarted t.player) (t.ended ++ ended_at outcomes.Conflict (e.snapshot / 2) e.actions.ran (running.inside inside).row ∷ []))
+    conflicts =
         let h = running.inside inside in
-        let shut = served.tells.closes.closed in
-        let begun : rules.depth (rules.restarted t.player) ≡ 0 = running.nested.begun inside in
         let player : rules.restarted (answered_all rules.answered (rules.answered h.try.is_open.of_block.start.player (begin_code h.between.again)) (map (λ (x : CallRecord). x.reply) h.row.calls.list)) ≡ rules.restarted t.player = ap rules.restarted (sym h.try.is_open.of_block.player) in
         let arena : (undone (alone c.depth (bytes_at v (e.snapshot / 2)) (ended_at outcomes.Conflict (e.snapshot / 2) e.actions.ran h.row))).arena ≡ e.arena =
         arena_given_up laws c t s.view v s.engine running before inside served.went position conflict_read e.actions.ran (ran_undone (Conflict clock word) served served.tells.revocable served.tells.undone)
         ∙ (ap (λ (x : State). x.arena) (sym (state_undone (Conflict clock word) served served.tells.revocable served.tells.undone)) ∙ stands_arena e position) in
-        record {
-          has_run = conflict_ended.0;
-          mine = conflict_mine;
-          tried = omega arith;
-          tries = omega arith;
-          nested = subst (λ (b : Bool). IsNested rules b (rules.restarted t.player)) (sym shut) (nested_outside rules (rules.restarted t.player) begun);
-          depth = begun ∙ sym (ap length (none_inside e.blocks shut));
-          deepest = served.limits.2 ∙ running.deepest;
-          limit = served.limits.3 ∙ running.limit;
-          inside = λ o. absurd (true≢false (sym o ∙ shut));
-          outside = λ o. record {
-            between = record { player = rules.restarted t.player; arena = e.arena; again = true; tries = h.row.nth };
-            stage_is = refl;
-            known = (let k = known_more c.known t.ended (ended_at outcomes.Conflict (e.snapshot / 2) e.actions.ran h.row) in let up = stands.settled.reached in let behind = stands.behind in let high = stands.over.high in omega arith);
-            now_is = conflict_ended.1 ∙ (λ i. Some (record { player = player i; arena = arena i; again = true; tries = h.row.nth }));
-            before = record { calls = 0; leads = (refl, refl); again = h.again; tries = (let same = h.nth in omega arith) };
-            looked = (let looked = h.looked in let looks = served.tells.looks in omega arith);
-          };
-        }
+        runs_outside conflict_run served.tells.closes.closed (record {
+          between = record { player = rules.restarted t.player; arena = e.arena; again = true; tries = h.row.nth };
+          stage_is = refl;
+          known = (let k = known_more c.known t.ended (ended_at outcomes.Conflict (e.snapshot / 2) e.actions.ran h.row) in let up = stands.settled.reached in let behind = stands.behind in let high = stands.over.high in omega arith);
+          now_is = conflict_stopped.1 ∙ (λ i. Some (record { player = player i; arena = arena i; again = true; tries = h.row.nth }));
+          before = record { calls = 0; leads = (refl, refl); again = h.again; tries = (let same = h.nth in omega arith) };
+          looked = (let looked = h.looked in let looks = served.tells.looks in omega arith);
+        })
 
   -- as full: the clock is wanted, and is not to be had
   module _ (at : ℕ) (served : Served s (Full at) v e) where
@@ -106,9 +91,7 @@ module _ {P : Type 0} {rules : Rules P} (laws : Obeys rules) (c : Course P) (s :
         (ap takes_clock (closes_as (running.inside inside).try.is_open position full_read.0 full_read.1 s.call due still_open refl)
         ∙ ((λ i. takes_clock (after (sym running.deepest i) (sym stands_whole i) s.call)) ∙ wants_taking s.engine m full_revocable inside s.call served.tells.wants))
 
-    pub full_run : HasRun rules c v (t.ended ++ ended_at outcomes.Full (e.snapshot / 2) e.actions.ran (running.inside inside).row ∷ [])
-        × (v.mine ≡ c.view.mine ++ positions (t.ended ++ ended_at outcomes.Full (e.snapshot / 2) e.actions.ran (running.inside inside).row ∷ []))
-        × (s.engine.max_commits ≤ length v.seen)
+    pub full_run : RanTo rules c v (t.ended ++ ended_at outcomes.Full (e.snapshot / 2) e.actions.ran (running.inside inside).row ∷ []) × (s.engine.max_commits ≤ length v.seen)
     full_run =
         let m : List ℕ = stood s.engine.irrevocable s.view position in
         let at_is = served.tells.closes.at_is in
@@ -116,9 +99,8 @@ module _ {P : Type 0} {rules : Rules P} (laws : Obeys rules) (c : Course P) (s :
         let full = served.tells.full in
         let late = served.tells.closes.late inside in
         let began = (running.inside inside).try.is_open.began in (
-          (stop_ended laws c t s.view v s.engine running before inside served.went (e.snapshot / 2) outcomes.Full e.actions.ran refl full_read (stands_open s.engine m inside, stands_mode s.engine m ∙ full_revocable)
+          (stopped laws c t s.view v s.engine running before inside served.went (e.snapshot / 2) outcomes.Full e.actions.ran refl full_read served.mine (stands_open s.engine m inside, stands_mode s.engine m ∙ full_revocable)
               (ran_given_up laws c t s.view v s.engine running before inside served.went position full_read e.actions.ran (ran_undone (Full at) served full_revocable served.tells.undone) outcomes.Full refl (λ x. absurd (cc))) (omega arith) (omega arith) (λ lost. absurd (cc)) (λ f. lacks)).0,
-          stop_mine laws c t s.view v s.engine running before inside served.went (e.snapshot / 2) outcomes.Full e.actions.ran refl full_read served.mine,
           omega arith,
         )
 
@@ -126,9 +108,7 @@ module _ {P : Type 0} {rules : Rules P} (laws : Obeys rules) (c : Course P) (s :
 
 module _ {P : Type 0} {rules : Rules P} (laws : Obeys rules) (c : Course P) (s : Start) (t : Account P) (running : IsRunning rules c s.view s.engine t) (before : Stands s.view s.engine) (inside : in_transaction s.engine ≡ true) where
   -- it is given up for want of memory
-  pub starved_run : (v : View) (e : Core) → s.engine.irrevocable ≡ false → e ≡ after_undoing s.engine → v ≡ s.view
-      → HasRun rules c v (t.ended ++ ended_at outcomes.NoMemory (e.snapshot / 2) e.actions.ran (running.inside inside).row ∷ [])
-      × (v.mine ≡ c.view.mine ++ positions (t.ended ++ ended_at outcomes.NoMemory (e.snapshot / 2) e.actions.ran (running.inside inside).row ∷ []))
+  pub starved_run : (v : View) (e : Core) → s.engine.irrevocable ≡ false → e ≡ after_undoing s.engine → v ≡ s.view → RanTo rules c v (t.ended ++ ended_at outcomes.NoMemory (e.snapshot / 2) e.actions.ran (running.inside inside).row ∷ [])
   starved_run v e revocable is same =
       let free : s.engine.holds ≡ false = before.mode ∙ revocable in
       let snapshot : e.snapshot ≡ s.engine.snapshot = ap (λ (x : Core). x.snapshot) is ∙ ap (λ (h : Bool). (if h then s.engine else record (rolled_back s.engine) { stage = Idle; tries = 0 }).snapshot) free in
@@ -137,24 +117,19 @@ module _ {P : Type 0} {rules : Rules P} (laws : Obeys rules) (c : Course P) (s :
       let read : MayRead s.view s.engine (memory_of v (e.snapshot / 2)) = subst (MayRead s.view s.engine) (λ i. memory_of (sym same i) (sym snapshot i / 2)) (may_here s.view s.engine before inside) in
       let began = (running.inside inside).try.is_open.began in
       let count = (before.reads inside).count in
-      let seen = ap (λ (x : View). length x.seen) same in (
-        (stop_ended laws c t s.view v s.engine running before inside went (e.snapshot / 2) outcomes.NoMemory e.actions.ran refl read (stands_open s.engine m inside, stands_mode s.engine m ∙ revocable)
-            (ran_given_up laws c t s.view v s.engine running before inside went (memory_of v (e.snapshot / 2)) read e.actions.ran (given_up_as s.engine e m free revocable is) outcomes.NoMemory refl (λ x. absurd (cc))) (omega arith) (omega arith) (λ lost. absurd (cc)) (λ f. absurd (cc))).0,
-        stop_mine laws c t s.view v s.engine running before inside went (e.snapshot / 2) outcomes.NoMemory e.actions.ran refl read (ap (λ (x : View). x.mine) same),
-      )
+      let seen = ap (λ (x : View). length x.seen) same in
+      (stopped laws c t s.view v s.engine running before inside went (e.snapshot / 2) outcomes.NoMemory e.actions.ran refl read (ap (λ (x : View). x.mine) same) (stands_open s.engine m inside, stands_mode s.engine m ∙ revocable)
+      (ran_given_up laws c t s.view v s.engine running before inside went (memory_of v (e.snapshot / 2)) read e.actions.ran (given_up_as s.engine e m free revocable is) outcomes.NoMemory refl (λ x. absurd (cc))) (omega arith) (omega arith) (λ lost. absurd (cc)) (λ f. absurd (cc))).0
 
   -- the thread stops, and it is told as it stands
-  pub unfinished_run : HasRun rules c s.view (t.ended ++ ended_at outcomes.Unfinished (s.engine.snapshot / 2) s.engine.actions.ran (running.inside inside).row ∷ [])
-      × (s.view.mine ≡ c.view.mine ++ positions (t.ended ++ ended_at outcomes.Unfinished (s.engine.snapshot / 2) s.engine.actions.ran (running.inside inside).row ∷ []))
+  pub unfinished_run : RanTo rules c s.view (t.ended ++ ended_at outcomes.Unfinished (s.engine.snapshot / 2) s.engine.actions.ran (running.inside inside).row ∷ [])
   unfinished_run =
       let h = running.inside inside in
       let m : List ℕ = stood s.engine.irrevocable s.view (memory_of s.view (s.engine.snapshot / 2)) in
       let read = may_here s.view s.engine before inside in
-      let count = (before.reads inside).count in (
-        (stop_ended laws c t s.view s.view s.engine running before inside (went_self s.view) (s.engine.snapshot / 2) outcomes.Unfinished s.engine.actions.ran refl read (stands_open s.engine m inside)
-            (ran_standing laws c t s.view s.view s.engine running before inside (went_self s.view) (memory_of s.view (s.engine.snapshot / 2)) read) h.try.is_open.began (omega arith) (λ lost. absurd (cc)) (λ f. absurd (cc))).0,
-        stop_mine laws c t s.view s.view s.engine running before inside (went_self s.view) (s.engine.snapshot / 2) outcomes.Unfinished s.engine.actions.ran refl read refl,
-      )
+      let count = (before.reads inside).count in
+      (stopped laws c t s.view s.view s.engine running before inside (went_self s.view) (s.engine.snapshot / 2) outcomes.Unfinished s.engine.actions.ran refl read refl (stands_open s.engine m inside)
+      (ran_standing laws c t s.view s.view s.engine running before inside (went_self s.view) (memory_of s.view (s.engine.snapshot / 2)) read) h.try.is_open.began (omega arith) (λ lost. absurd (cc)) (λ f. absurd (cc))).0
 
   -- and whether it is irrevocable, by its calls alone
   pub unfinished_mode : (alone c.depth (bytes_at s.view (s.engine.snapshot / 2)) (running.inside inside).row).irrevocable ≡ s.engine.irrevocable

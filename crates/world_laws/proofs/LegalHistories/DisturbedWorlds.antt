@@ -1,8 +1,7 @@
 -- In a world whose attempts are opaque, each reads as many commits past its begin as it tells of blocks that ran again.
 use Rattle.std.proofs.Common.{◌/◌, length, Some}
 use Rattle.world_laws.proofs.Common.{AreOpaque, Rules, World, attempts_of, bytes_at, first_of, observed, of_thread, there_is}
-use Rattle.tx_attempts.specs.Outrun.{AreDisturbed, IsDisturbed}
-use Rattle.tx_attempts.proofs.DisturbedRuns.{disturbed_run}
+use Rattle.tx_attempts.{specs.Outrun.AreDisturbed, specs.Outrun.IsDisturbed, proofs.DisturbedRuns.disturbed_run}
 use Rattle.world_laws.proofs.LegalHistories.EachThread.{of_threads}
 
 pub disturbed_world : {P : Type 0} (rules : Rules P) (w : World P) → AreOpaque rules (observed w) → AreDisturbed (attempts_of w)

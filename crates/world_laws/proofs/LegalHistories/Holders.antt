@@ -11,6 +11,10 @@ count_holding_both h (x ∷ xs) ys = (let e = count_holding_both h xs ys in omeg
 
 -- ## Ended attempts hold nothing
 
+pub all_ended : (Q : Attempt → Type 0) (xs : List Attempt) → AreEnded xs → ((row : Attempt) → (row.outcome ≡ Unfinished → ⊥) → Q row) → All Q xs
+all_ended Q [] e each = All-nil Q
+all_ended Q (x ∷ xs) e each = All-cons Q x xs (each x e.0) (all_ended Q xs e.1 each)
+
 over : (o : Outcome) → (o ≡ Unfinished → ⊥) → is_unfinished o ≡ false
 over Unfinished n = absurd (n refl)
 over o n = refl
@@ -19,13 +23,18 @@ module _ (h : History) where
   over_free : (a : Attempt) → (a.outcome ≡ Unfinished → ⊥) → is_holding h a ≡ false
   over_free a n = ap (λ (b : Bool). b && (alone (depth_of h.version) (memory_at h a.at) a).irrevocable) (over a.outcome n)
 
+  pub none_held : (xs : List Attempt) → All (λ (a : Attempt). is_holding h a ≡ true → ⊥) xs → count_holding h xs ≡ 0
+  none_held [] all = refl
+  none_held (x ∷ xs) all = elim (cases_Bool (is_holding h x)) [
+    | inl t ↦ absurd (All-head (λ (a : Attempt). is_holding h a ≡ true → ⊥) x xs all t)
+    | inr f ↦ (let r = none_held xs (All-tail (λ (a : Attempt). is_holding h a ≡ true → ⊥) x xs all) in let none : one_where (is_holding h x) ≡ 0 = ap one_where f in omega arith)
+  ]
+
   pub ended_free : (xs : List Attempt) → AreEnded xs → count_holding h xs ≡ 0
-  ended_free [] e = refl
-  ended_free (x ∷ xs) e = (let r = ended_free xs e.1 in let none : one_where (is_holding h x) ≡ 0 = ap one_where (over_free x e.0) in omega arith)
+  ended_free xs e = none_held xs (all_ended (λ (a : Attempt). is_holding h a ≡ true → ⊥) xs e (λ a n t. true≢false (sym t ∙ over_free a n)))
 
   pub ended_there : (n : ℕ) (xs : List Attempt) → AreEnded xs → All (λ (a : Attempt). is_holding h a ≡ true → a.at ≡ n) xs
-  ended_there n [] e = All-nil (λ (a : Attempt). is_holding h a ≡ true → a.at ≡ n)
-  ended_there n (x ∷ xs) e = All-cons (λ (a : Attempt). is_holding h a ≡ true → a.at ≡ n) x xs (λ t. absurd (true≢false (sym t ∙ over_free x e.0))) (ended_there n xs e.1)
+  ended_there n xs e = all_ended (λ (a : Attempt). is_holding h a ≡ true → a.at ≡ n) xs e (λ a over t. absurd (true≢false (sym t ∙ over_free a over)))
 
   -- ## Open attempts, of which one thread's may hold it
 
@@ -35,34 +44,22 @@ module _ (h : History) where
   abbrev pub HeldBy : ℕ → Attempt → Type 0
   HeldBy i a = is_holding h a ≡ true → a.thread ≡ i
 
-  none_past : (i n : ℕ) (xs : List Attempt) → i < n → AreFrom n xs → All (HeldBy i) xs → count_holding h xs ≡ 0
-  none_past i n [] l from all = refl
-  none_past i n (x ∷ xs) l from all = elim (cases_Bool (is_holding h x)) [
-    | inl t ↦ absurd (let same = All-head (HeldBy i) x xs all t in let f = from.0 in omega arith)
-    | inr f ↦
-        (let r = none_past i (x.thread + 1) xs (let g = from.0 in omega arith) from.1 (All-tail (HeldBy i) x xs all) in
-        let none : one_where (is_holding h x) ≡ 0 = ap one_where f in
-        omega arith)
-  ]
+  none_past : (i n : ℕ) (xs : List Attempt) → i < n → AreFrom n xs → All (HeldBy i) xs → All (λ (a : Attempt). is_holding h a ≡ true → ⊥) xs
+  none_past i n [] l from all = All-nil (λ (a : Attempt). is_holding h a ≡ true → ⊥)
+  none_past i n (x ∷ xs) l from all = All-cons (λ (a : Attempt). is_holding h a ≡ true → ⊥) x xs (λ t. omega (arith, l, from.0, All-head (HeldBy i) x xs all t))
+      (none_past i (x.thread + 1) xs (omega (arith, l, from.0)) from.1 (All-tail (HeldBy i) x xs all))
 
   pub one_held : (i n : ℕ) (xs : List Attempt) → AreFrom n xs → All (HeldBy i) xs → count_holding h xs ≤ 1
   one_held i n [] from all = omega arith
   one_held i n (x ∷ xs) from all = elim (cases_Bool (is_holding h x)) [
     | inl t ↦
-        (let r = none_past i (x.thread + 1) xs (let same = All-head (HeldBy i) x xs all t in omega arith) from.1 (All-tail (HeldBy i) x xs all) in
+        (let r = none_held xs (none_past i (x.thread + 1) xs (let same = All-head (HeldBy i) x xs all t in omega arith) from.1 (All-tail (HeldBy i) x xs all)) in
         let one : one_where (is_holding h x) ≡ 1 = ap one_where t in
         omega arith)
     | inr f ↦
         (let r = one_held i (x.thread + 1) xs from.1 (All-tail (HeldBy i) x xs all) in
         let none : one_where (is_holding h x) ≡ 0 = ap one_where f in
         omega arith)
-  ]
-
-  pub none_held : (xs : List Attempt) → All (λ (a : Attempt). is_holding h a ≡ true → ⊥) xs → count_holding h xs ≡ 0
-  none_held [] all = refl
-  none_held (x ∷ xs) all = elim (cases_Bool (is_holding h x)) [
-    | inl t ↦ absurd (All-head (λ (a : Attempt). is_holding h a ≡ true → ⊥) x xs all t)
-    | inr f ↦ (let r = none_held xs (All-tail (λ (a : Attempt). is_holding h a ≡ true → ⊥) x xs all) in let none : one_where (is_holding h x) ≡ 0 = ap one_where f in omega arith)
   ]
 
 -- ## Places

@@ -1,8 +1,7 @@
 -- The history of a world is legal.
 use Rattle.std.proofs.Common.{◌≡◌, inl, inr, get_or, ℕ, ◌/◌, ◌%◌, ◌≤◌, true, true≢false, All, List, ◌∷◌, ◌++◌, length, Some, slice_get, nat_lt, sym, ap, subst, ◌∙◌, arith, append_assoc}
 use Rattle.world_laws.proofs.Common.{Actor, All-append, AreOpaque, AreTied, Attempt, CommitsInOrder, EndsFree, EndsHeld, IsLegal, Rules, Version, World, active_of, alone, attempts_of, bytes_at, count_committed, count_holding, depth_of, first_of, in_transaction, is_holding, observed, odd_or_even, of_thread, one_where, opens, row_unfinished, same_Some, there_is, told_of}
-use Rattle.tx_history.specs.Legal.{IsAlone}
-use Rattle.tx_history.proofs.Runs.AloneRuns.{IsPlaced, of_run}
+use Rattle.tx_history.{specs.Legal.IsAlone, proofs.Runs.AloneRuns.IsPlaced, proofs.Runs.AloneRuns.of_run}
 use Rattle.world_laws.proofs.LegalHistories.EachThread.{of_threads}
 use Rattle.world_laws.proofs.LegalHistories.Holders.{HeldBy, count_holding_both, each_open, ended_free, ended_there, irrevocable_of, none_held, one_held, placed_there, stands_among}
 

@@ -6,8 +6,7 @@ use Rattle.tx_history.proofs.ToldRestarts.{may_tell}
 use Rattle.tx_runs.specs.Restarts.{RestartAtMost}
 use Rattle.world_rules.specs.Dates.{AreDated}
 use Rattle.tx_history.proofs.Runs.LimitedRuns.{IsOwn, own_run}
-use Rattle.world_laws.specs.Limits.{HasArenaWidths, IsLimitedWorld}
-use Rattle.world_laws.proofs.LegalHistories.EachThread.{of_threads}
+use Rattle.world_laws.{specs.Limits.HasArenaWidths, specs.Limits.IsLimitedWorld, proofs.LegalHistories.EachThread.of_threads}
 
 -- each is of an actor that there is
 all_of_actors : (n : ℕ) (xs : List Attempt) → AreOfActors n xs → All (λ (a : Attempt). a.thread < n) xs

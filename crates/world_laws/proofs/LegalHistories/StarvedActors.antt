@@ -1,8 +1,9 @@
 -- The open attempt of an actor that found no memory is irrevocable; so there is none where no such attempt is.
-use Rattle.std.proofs.Common.{inl, inr, ◌≡◌, ℕ, Bool, true, false, All, List, [], ◌∷◌, nat_lt, None, Some, slice_get, Result, sym, ap, subst, ◌∙◌}
-use Rattle.world_laws.proofs.Common.{Actor, All-append, All-cons, All-nil, AreEnded, Attempt, FedLeaveNoneOpen, Goes, GoesOnAfter, IsFed, IsNew, Leads, NoMemory, Outcome, Prior, Rows, Rules, Tries, TriesAgain, World, WorldFault, active_of, begins, between, both_ways, cases_Bool, ending_at, ending_of, is_event, none-some, opens, option_and_then, outrun, over, runs, set_place, shut_out, turned_away, waits_there}
+use Rattle.std.proofs.Common.{inl, inr, ◌≡◌, ℕ, true, List, None, Some, slice_get, Result, sym, ap, subst, ◌∙◌}
+use Rattle.world_laws.proofs.Common.{Actor, All-append, Attempt, FedLeaveNoneOpen, Goes, IsFed, IsNew, Leads, NoMemory, Prior, Rows, Rules, Tries, World, WorldFault, active_of, between, both_ways, cases_Bool, ending_at, ending_of, is_event, none-some, opens, option_and_then, over, set_place, waits_there}
 use Rattle.tx_attempts.specs.declared.attempt.Outcome.TheVariants as outcomes
-use Rattle.world_laws.proofs.LegalHistories.Holders.{each_open, placed_there}
+use Rattle.world_rules.{proofs.Events.WorldEvents.leads_keep, proofs.Tries.ToldTries.stays_or_none}
+use Rattle.world_laws.proofs.LegalHistories.Holders.{all_ended, each_open, placed_there}
 
 -- ## One actor
 
@@ -14,29 +15,10 @@ module _ {P : Type 0} where
   none_held : (a : Actor P) → active_of a ≡ None → StaysHeld a
   none_held a none e row unclosed = absurd (none-some row (sym none ∙ unclosed))
 
-  again_held : (last : Bool) (clock nth : ℕ) (a : Actor P) → TriesAgain last clock nth a → StaysHeld a
-  again_held true clock nth a t = none_held a t.none
-  again_held false clock nth a t = none_held a t.none
-
-  after_held : (o : Outcome) (clock : ℕ) (p : Prior) (a : Actor P) → GoesOnAfter o clock p a → StaysHeld a
-  after_held outcomes.Conflict clock p a g = again_held (nat_lt p.retries p.nth) clock p.nth a g
-  after_held outcomes.Unfinished clock p a g = absurd g
-  after_held o clock p a g = none_held a g.none
-
   tries_held : {IsLater : Attempt → Attempt → Type 0} (clock : ℕ) (p : Prior) (clock' : ℕ) (r : Rows) (a : Actor P) → Tries IsLater clock p clock' r a → StaysHeld a
-  tries_held clock p clock' r a (between t) = none_held a t.between.none
-  tries_held clock p clock' r a (begins t) = none_held a t.still
-  tries_held clock p clock' r a (runs t) = λ e row unclosed. t.fed e
-  tries_held clock p clock' r a (over t) = after_held t.row'.outcome clock' p a t.after
-  tries_held clock p clock' r a (turned_away t) = again_held (nat_lt p.retries p.nth) clock' p.nth a t.after
-  tries_held clock p clock' r a (outrun t) = again_held (nat_lt p.retries p.nth) clock' p.nth a t.after
-  tries_held clock p clock' r a (shut_out t) = none_held a t.after.none
+  tries_held clock p clock' r a t = elim (stays_or_none clock clock' p r a t) [ inl t ↦ λ e row unclosed. t.fed e | inr none ↦ none_held a none ]
 
 -- ## All of a world's
-
-all_ended : (Q : Attempt → Type 0) (xs : List Attempt) → AreEnded xs → ((row : Attempt) → (row.outcome ≡ outcomes.Unfinished → ⊥) → Q row) → All Q xs
-all_ended Q [] e each = All-nil Q
-all_ended Q (x ∷ xs) e each = All-cons Q x xs (each x e.0) (all_ended Q xs e.1 each)
 
 module _ {P : Type 0} (rules : Rules P) where
   abbrev StayHeld : World P → Type 0
@@ -54,12 +36,6 @@ module _ {P : Type 0} (rules : Rules P) where
     | inr none ↦ subst StayHeld (sym (goes.unchanged none)) held
   ]
 
-  held_led : (schedule : List ℕ) (results : List (Result (Unit {0}) WorldFault)) (w new : World P) → StayHeld w → Leads rules w schedule results new → StayHeld new
-  held_led [] [] w new held l = subst StayHeld (sym l) held
-  held_led [] (r ∷ rs) w new held l = absurd l
-  held_led (i ∷ rest) [] w new held l = absurd l
-  held_led (i ∷ rest) (r ∷ rs) w new held l = held_led rest rs l.0 new (held_goes i w l.0 r held l.1) l.2
-
   -- ## At the end
 
   -- who found none has no open attempt, where the world is fed
@@ -67,7 +43,7 @@ module _ {P : Type 0} (rules : Rules P) where
       → (place : ℕ) (a : Actor P) (row : Attempt) → slice_get w.actors place ≡ Some a → active_of a ≡ Some row → ending_at w place ≡ Some NoMemory → ⊥
   starved_shut schedule results first w new leads fed place a row here some starved =
       let ended : ending_of a.status ≡ Some NoMemory = sym (ap (option_and_then (λ (x : Actor P). ending_of x.status)) here) ∙ starved in
-      both_ways a.engine.irrevocable (fed place a here ended) (held_led schedule results first w (λ place a here. none_held a (new.first place a here).between.none) leads place a here ended row some)
+      both_ways a.engine.irrevocable (fed place a here ended) (leads_keep rules StayHeld held_goes schedule results first w (λ place a here. none_held a (new.first place a here).between.none) leads place a here ended row some)
 
   pub fed_leave_none_open : FedLeaveNoneOpen rules
   fed_leave_none_open schedule results first w new leads commits tied fed =

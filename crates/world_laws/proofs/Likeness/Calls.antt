@@ -2,8 +2,7 @@
 use Rattle.std.proofs.Common.{◌≡◌, ℕ, ◌/◌, Some, unwrap_or, refl, sym, ap, subst, ◌∙◌}
 use Rattle.world_laws.proofs.Common.{Actor, AreAlike, Call, Calls, Cells, Core, Next, Ready, Rows, Rules, Step, TakesIn, Tally, Tells, Waits, begins_again, came, found, irrevocable_room, stage_of, tally_of, told}
 use Rattle.world_rules.proofs.Common.{IsResumed}
-use Rattle.norec_core.specs.Moves.{IsCalled}
-use Rattle.norec_core.proofs.Replies.Outcomes.{called_once, resumed_once}
+use Rattle.norec_core.{specs.Moves.IsCalled, proofs.Replies.Outcomes.called_once, proofs.Replies.Outcomes.resumed_once}
 use Rattle.world_laws.proofs.Likeness.Answers.{GoAlike, told_alike, told_same}
 
 -- ## A step

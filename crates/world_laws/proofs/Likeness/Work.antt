@@ -1,8 +1,7 @@
 -- Two actors that are alike are alike after their local work, and after an event, as long as no memory is refused.
 use Rattle.std.proofs.Common.{◌≡◌, ℕ, zero, suc, ◌<◌, false, None, Some, inl, inr, sym, ap, subst, ◌∙◌, arith}
 use Rattle.world_laws.proofs.Common.{Actor, Acts, ActsOn, AreAlike, Cells, Ended, Finished, Finishes, IsEvent, NoMemory, Ready, Rows, Rules, Works, calls, cases_lt, ending_of, finishes, is_ready, starves}
-use Rattle.world_laws.proofs.Likeness.Answers.{GoAlike}
-use Rattle.world_laws.proofs.Likeness.Calls.{step_alike, call_alike}
+use Rattle.world_laws.{proofs.Likeness.Answers.GoAlike, proofs.Likeness.Calls.step_alike, proofs.Likeness.Calls.call_alike}
 
 -- no memory was refused to it
 abbrev pub IsFed : {P : Type 0} → Actor P → Type 0

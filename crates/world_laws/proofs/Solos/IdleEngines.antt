@@ -2,8 +2,7 @@
 use Rattle.std.proofs.Common.{◌≡◌, ℕ, zero, suc, Bool, true, false, Some, refl, sym, ap, subst, ◌∙◌, if◌then◌else◌}
 use Rattle.world_laws.proofs.Common.{Actor, Acts, ActsOn, Answers, Asks, Call, Cells, Core, End, HasStarted, IsEvent, IsIdle, Next, Ready, Rows, Rules, Status, TakesIn, Tells, Waits, calls, ending_of, finishes, is_waiting, starves}
 use Rattle.world_rules.proofs.Common.{Proceeds, rests}
-use Rattle.norec_core.specs.Phases.{Idle}
-use Rattle.norec_core.specs.Core.{rolled_back}
+use Rattle.norec_core.{specs.Phases.Idle, specs.Core.rolled_back}
 
 -- ## An event
 

@@ -1,19 +1,13 @@
 -- A player that runs alone, block by block.
-use Rattle.std.proofs.Common.{◌≡◌, ℕ, zero, suc, ◌+◌, ◌<◌, ◌≤◌, Bool, true, false, not, ◌&&◌, ◌||◌, nat_le, is_none, if◌then◌else◌, List, [], ◌∷◌, ◌++◌, map, Option, None, Some, refl, sym, ap, subst, ◌∙◌, arith, cond}
+use Rattle.std.proofs.Common.{◌≡◌, ℕ, zero, suc, ◌+◌, ◌<◌, ◌≤◌, Bool, true, false, not, ◌&&◌, ◌||◌, nat_le, is_none, if◌then◌else◌, List, [], ◌∷◌, ◌++◌, map, Option, None, Some, refl, sym, ap, subst, ◌∙◌, inl, arith, cond}
 use Rattle.world_laws.proofs.Common.{Begin, Beginning, Call, CallRecord, Finished, Full, GaveUp, IsAlone, Obeys, Progress, Props, Reply, Rules, Solo, State, Unfinished, aborts, after, and_from, and_left, and_right, answers, answers_within, asked, before_taking, begin_code, begin_of, begin_within, begun_then, block_then, both_ways, cond-false, cond-true, ended_as, entry_of, false_from_ne_true, is_abort, is_open, left_open, limited_then, one_if, opened, or_from, outside, pair_of, passed, player_after, player_then, refusal, reply, row_of, same_Some, solo_within, state_after, state_then, stopped, takes_clock, turn, unbroken, with_first, within_limit}
-use Rattle.world_laws.proofs.Solos.TakingCalls.{goes_opened, marked_opened, marked_then, next_takes, none_takes}
+use Rattle.std.proofs.Math.Bool.{and-true, or-false}
+use Rattle.tx_history.proofs.Runs.UnwrittenTransactions.{stands_opened}
+use Rattle.world_laws.proofs.Solos.TakingCalls.{goes_opened, next_takes, none_takes, stands_then}
 
 pub state_pairs : (deepest : ℕ) (s : State) (xs : List CallRecord) → state_after deepest s (map (λ (c : Call × Reply). c.0) (map pair_of xs)) ≡ state_then deepest unbroken s xs
 state_pairs deepest s [] = refl
 state_pairs deepest s (x ∷ xs) = state_pairs deepest (after deepest s x.call) xs
-
-of_and : (x : Bool) → (x && true) ≡ false → x ≡ false
-of_and true e = e
-of_and false e = refl
-
-or_none : (x y : Bool) → y ≡ false → (x || y) ≡ x
-or_none true y e = refl
-or_none false y e = e
 
 module _ {P : Type 0} (rules : Rules P) (laws : Obeys rules) (deepest : ℕ) where
   abbrev comes : ℕ → P → List ℕ → Option Call → Option (Beginning P)
@@ -169,7 +163,7 @@ module _ {P : Type 0} (rules : Rules P) (laws : Obeys rules) (deepest : ℕ) whe
           → is_open (state_of b start ys) ≡ true → (state_of b start ys).irrevocable ≡ false → takes_clock (after deepest (state_of b start ys) c) ≡ true → nat_le max_commits b.commits ≡ true
           → goes (rules.calls_left b.player) b ≡ with_first (row_of deepest thread b start (record { list = ys; room = 0 }) Full) (stopped rules deepest max_commits thread b GaveUp)
       full_block ys c r rest all made opens revocable takes full =
-          let before = next_takes rules deepest (begun start) first_state ys c r rest made (marked_opened b.memory start.arena start.props) opens revocable takes in
+          let before = next_takes rules deepest b.memory (begun start) first_state ys c r rest made (stands_opened deepest b.memory start.arena start.props) opens revocable takes in
           whole_block (map pair_of ys ++ (c, r) ∷ rest) all (and_left start.props.goes_irrevocable (nat_le max_commits b.commits) (revocable_begins before.0)) (Some (map pair_of ys))
           (cond-true (nat_le max_commits b.commits) _ _ full ∙ before.1)
           ∙ ap (λ (l : List CallRecord). with_first (row_of deepest thread b start (record { list = l; room = 0 }) Full) (stopped rules deepest max_commits thread b GaveUp)) (entries_pairs ys)
@@ -189,7 +183,7 @@ module _ {P : Type 0} (rules : Rules P) (laws : Obeys rules) (deepest : ℕ) whe
             by_limit : (full : Bool) → (takes_clock last_state && full) ≡ false → IsFree full
             by_limit false e = (and_right start.props.goes_irrevocable false refl, refl)
             by_limit true e =
-                let none = none_takes rules deepest (begun start) first_state xs made (marked_opened b.memory start.arena start.props) (of_and (takes_clock last_state) e) in
+                let none = none_takes rules deepest b.memory (begun start) first_state xs made (stands_opened deepest b.memory start.arena start.props) (sym (and-true (takes_clock last_state)) ∙ e) in
                 (and_left start.props.goes_irrevocable true (revocable_begins none.0), none.1)
 
         block_here : (takes_clock last_state && nat_le max_commits b.commits) ≡ false
@@ -218,15 +212,15 @@ module _ {P : Type 0} (rules : Rules P) (laws : Obeys rules) (deepest : ℕ) whe
             by_wrote : (w : Bool) → last_state.wrote ≡ w → (takes_clock last_state && nat_le max_commits b.commits) ≡ false
             by_wrote true w = and_right (takes_clock last_state) (nat_le max_commits b.commits) (ap (λ (x : Bool). x && nat_le max_commits b.commits) (sym w) ∙ free)
             by_wrote false w =
-                let marked = marked_then rules deepest (begun start) first_state xs made (marked_opened b.memory start.arena start.props) in
-                let revocable = false_from_ne_true last_state.irrevocable (λ e. both_ways last_state.wrote w (marked e)) in
+                let stands = stands_then rules deepest b.memory (begun start) first_state xs made (stands_opened deepest b.memory start.arena start.props) in
+                let revocable = false_from_ne_true last_state.irrevocable (λ e. both_ways last_state.wrote w (stands.lasts (inl e)).0) in
                 and_left (takes_clock last_state) (nat_le max_commits b.commits) (or_from last_state.irrevocable (not (is_open last_state) && last_state.wrote) revocable (and_right (not (is_open last_state)) last_state.wrote w))
 
         -- the player leaves it open for good
         pub open_block : is_open (state_of b start xs) ≡ true → ((state_of b start xs).irrevocable && nat_le max_commits b.commits) ≡ false
             → goes (rules.calls_left b.player) b ≡ with_first (row_of deepest thread b start (record { list = xs; room = 0 }) Unfinished) (left_open rules deepest max_commits thread b (state_of b start xs))
         open_block opens free =
-            block_here (ap (λ (x : Bool). x && nat_le max_commits b.commits) (or_none last_state.irrevocable (not (is_open last_state) && last_state.wrote) (and_left (not (is_open last_state)) last_state.wrote (ap not opens))) ∙ free)
+            block_here (ap (λ (x : Bool). x && nat_le max_commits b.commits) ((λ i. last_state.irrevocable || and_left (not (is_open last_state)) last_state.wrote (ap not opens) i) ∙ or-false last_state.irrevocable) ∙ free)
             ∙ (cond-true (is_open last_state) _ _ opens
             ∙ ap (λ (l : List CallRecord). with_first (row_of deepest thread b start (record { list = l; room = 0 }) Unfinished) (left_open rules deepest max_commits thread b last_state)) (entries_pairs xs))
 

@@ -1,22 +1,11 @@
 -- The run of an actor that has its world to itself is what its player does alone.
-use Rattle.std.proofs.Common.{◌≡◌, ℕ, suc, ◌+◌, ◌<◌, ◌≤◌, ◌==◌, ◌&&◌, Bool, true, false, ◌%◌, drop, nat_le, nat_lt, if◌then◌else◌, List, [], ◌∷◌, ◌++◌, length, map, replicate, take, Option, None, Some, refl, sym, ap, subst, ◌∙◌, arith, eqb-true, eq-eqb, lt-ltb, leb-true}
-use Rattle.world_laws.proofs.Common.{Abort, AreSole, Attempt, Begin, Beginning, Between, Block, Call, CallRecord, ClosedBy, Commit, Copy, CopyPair, EndsAs, Fill, In, IsAlone, IsFirstTry, IsOpaque, IsRunOf, Log, LogBytes, Mode, Obeys, Outcome, Progress, Props, Refusal, Reply, Rules, Saved, Solo, State, UndoAction, Write, aborts, after, after_try, after_unless, alone, answered_all, answers, answers_on, answers_through, answers_within, append-nil, back_from, begin_code, begin_of, breaks_of, bytes_at, closed_in, committed_at, effect, ended_as, entered, false_from_ne_true, follows, handed, irrevocable_from, is_abort, is_at, is_committed, is_done, is_open, logged_in, made_irrevocable, memory_left, one_if, opened, option_map, or_parts, outside, pair_of, player_then, pushed, ran_of, refusal, replies_of, reply, rolled_back, row_of, run_after, solo_within, source_bytes, state_then, take-append-drop, target_written, try_begun, turn, unbroken, undone_from, with_action, with_all, with_first, written}
-use Rattle.std.proofs.Math.Nat.{add-zero}
-use Rattle.itm_types.specs.Access.{size_of}
-use Rattle.itm_types.specs.Slices.{with_slice}
+use Rattle.std.proofs.Common.{◌≡◌, inl, inr, ℕ, suc, ◌+◌, ◌<◌, ◌≤◌, ◌==◌, ◌&&◌, Bool, true, false, nat_le, if◌then◌else◌, List, [], ◌∷◌, ◌++◌, map, Option, Some, refl, sym, ap, subst, ◌∙◌, arith, eqb-true, eq-eqb, leb-true}
+use Rattle.world_laws.proofs.Common.{AreSole, Attempt, Beginning, Between, Call, CallRecord, ClosedBy, EndsAs, IsAlone, IsFirstTry, IsOpaque, IsRunOf, Obeys, Outcome, Progress, Reply, Rules, Solo, State, aborts, after, after_try, alone, answered_all, answers, answers_on, answers_through, answers_within, begin_code, begin_of, breaks_of, bytes_at, cases_Bool, committed_at, ended_as, false_from_ne_true, follows, is_abort, is_at, is_committed, is_done, is_open, memory_left, one_if, opened, pair_of, player_then, ran_of, replies_of, reply, row_of, run_after, solo_within, state_then, try_begun, turn, unbroken, with_all, with_first}
 use Rattle.tx_attempts.specs.declared.attempt.Outcome.TheVariants as outcomes
-use Rattle.world_laws.proofs.Solos.Players.{aborts_snoc, ended_block}
-use Rattle.world_laws.proofs.Solos.TakingCalls.{in_open}
-use Rattle.itm_types.specs.declared.call.ActionKind.TheVariants as kinds
-use Rattle.itm_types.specs.KeptBytes.{also_kept, nothing}
+use Rattle.world_laws.{proofs.Solos.Players.aborts_snoc, proofs.Solos.Players.ended_block, proofs.Solos.TakingCalls.stands_then}
+use Rattle.tx_history.{proofs.Runs.AloneCalls.same_head, proofs.Runs.AloneCalls.same_tail, proofs.Runs.UnwrittenTransactions.stands_opened}
 
 -- ## The calls of an attempt
-
-parts_of : {A : Type 0} (x y : A) (xs ys : List A) → x ∷ xs ≡ y ∷ ys → (x ≡ y) × (xs ≡ ys)
-parts_of x y xs ys e = (cc, cc)
-
-with_slice-nil : (m : List ℕ) (place : ℕ) → with_slice m place [] ≡ m
-with_slice-nil m place = (λ i. append-nil (take place m) i ++ drop (add-zero place i) m) ∙ take-append-drop place m
 
 module _ {P : Type 0} (rules : Rules P) (deepest : ℕ) where
   -- a beginning of what a player gets was made alone
@@ -25,117 +14,15 @@ module _ {P : Type 0} (rules : Rules P) (deepest : ℕ) where
   alone_of n p s o [] rest t e = tt
   alone_of (suc n) p s (Some c) (x ∷ xs) rest t e =
       let q : P = rules.answered p (reply deepest s c) in
-      let parts = parts_of (pair_of x) (c, reply deepest s c) (map pair_of xs ++ rest) (answers_within rules.next_call rules.answered rules.calls_left deepest n q (after deepest s c) (turn rules.next_call rules.answered rules.calls_left q (after deepest s c))) e in
-      let call : x.call ≡ c = ap (λ (y : Call × Reply). y.0) parts.0 in
-      let replied : x.reply ≡ reply deepest s c = ap (λ (y : Call × Reply). y.1) parts.0 in (
+      let first : pair_of x ≡ (c, reply deepest s c) = same_head _ _ _ _ e in
+      let call : x.call ≡ c = ap (λ (y : Call × Reply). y.0) first in
+      let replied : x.reply ≡ reply deepest s c = ap (λ (y : Call × Reply). y.1) first in (
         t ∙ ap Some (sym call),
         replied ∙ ap (reply deepest s) (sym call),
         subst (λ (r : Reply). IsAlone rules deepest unbroken (rules.answered p r) (after deepest s x.call) xs) (sym replied)
-            (subst (λ (k : Call). IsAlone rules deepest unbroken q (after deepest s k) xs) (sym call) (alone_of n q (after deepest s c) (turn rules.next_call rules.answered rules.calls_left q (after deepest s c)) xs rest refl parts.1)),
+            (subst (λ (k : Call). IsAlone rules deepest unbroken q (after deepest s k) xs) (sym call) (alone_of n q (after deepest s c) (turn rules.next_call rules.answered rules.calls_left q (after deepest s c)) xs rest refl (same_tail _ _ _ _ e))),
       )
   alone_of n p s o (x ∷ xs) rest t e = absurd (cc)
-
-  -- calls that wrote nothing leave the memory
-  module _ (m : List ℕ) where
-    -- so it is of each open block, as at its begin, where it can be rolled back
-    abbrev pub WasUnwritten : Option Saved → Type 0
-    WasUnwritten None = Unit {0}
-    WasUnwritten (Some saved) = saved.wrote ≡ false → saved.memory ≡ m
-
-    abbrev pub AreUnwritten : List Block → Type 0
-    AreUnwritten [] = Unit {0}
-    AreUnwritten (b ∷ bs) = WasUnwritten b.saved × AreUnwritten bs
-
-    pub record IsUnwritten (s : State) : Type 0 where
-      pub now : s.wrote ≡ false → s.memory ≡ m
-      pub blocks : AreUnwritten s.blocks
-
-    unwritten_handed : (outer inner : Option Saved) → WasUnwritten outer → WasUnwritten (handed outer inner)
-    unwritten_handed (Some saved) None h = h
-    unwritten_handed outer inner h = h
-
-    unwritten_closed : (bs : List Block) → AreUnwritten bs → AreUnwritten (closed_in bs)
-    unwritten_closed (b ∷ p ∷ bs) h = (unwritten_handed p.saved b.saved h.1.0, h.1.1)
-    unwritten_closed bs h = tt
-
-    unwritten_kept : (o : Option Saved) (arena : List ℕ) (place size : ℕ) → WasUnwritten o → WasUnwritten (option_map {T = Saved} (λ (saved : Saved). record saved { kept = also_kept saved.kept arena place size }) o)
-    unwritten_kept None arena place size h = tt
-    unwritten_kept (Some saved) arena place size h = h
-
-    unwritten_logged : (bs : List Block) (arena : List ℕ) (place size : ℕ) → AreUnwritten bs → AreUnwritten (logged_in bs arena place size)
-    unwritten_logged [] arena place size h = tt
-    unwritten_logged (b ∷ bs) arena place size h = (unwritten_kept b.saved arena place size h.0, h.1)
-
-    unwritten_rolled : (s : State) (rest : List Block) (o : Option Saved) → IsUnwritten s → WasUnwritten o → AreUnwritten rest → IsUnwritten (rolled_back s rest o)
-    unwritten_rolled s rest None h k l = h
-    unwritten_rolled s rest (Some saved) h k l = record { now = k; blocks = l }
-
-    unwritten_back : (s : State) (bs : List Block) → IsUnwritten s → AreUnwritten bs → IsUnwritten (back_from s bs)
-    unwritten_back s [] h k = h
-    unwritten_back s (b ∷ bs) h k = unwritten_rolled s bs b.saved h k.0 k.1
-
-    unwritten_undone : (s : State) (bs : List Block) → IsUnwritten s → AreUnwritten bs → IsUnwritten (undone_from s bs)
-    unwritten_undone s [] h k = h
-    unwritten_undone s (b ∷ bs) h k = unwritten_undone (rolled_back s bs b.saved) bs (unwritten_rolled s bs b.saved h k.0 k.1) k.1
-
-    -- what is irrevocable has written
-    unwritten_kept_all : (bs : List Block) → AreUnwritten (map (λ (b : Block). record b { saved = None }) bs)
-    unwritten_kept_all [] = tt
-    unwritten_kept_all (b ∷ bs) = (tt, unwritten_kept_all bs)
-
-    unwritten_irrevocable : (s : State) → IsUnwritten s → IsUnwritten (irrevocable_from s)
-    unwritten_irrevocable s h = elim s.irrevocable as (λ (b : Bool). IsUnwritten (if b then s else made_irrevocable s)) [ true ↦ h | false ↦ record { now = λ w. absurd (cc); blocks = unwritten_kept_all s.blocks } ]
-
-    unwritten_entered : (s : State) (props : Props) → IsUnwritten s → IsUnwritten (entered s props)
-    unwritten_entered s props h = elim props.goes_irrevocable as (λ (goes : Bool). IsUnwritten (if goes then irrevocable_from (pushed s props) else pushed s props)) [ true ↦ unwritten_irrevocable (pushed s props) opens | false ↦ opens ]
-      where
-        saved : (b : Bool) → WasUnwritten (if b then None else Some (record { memory = s.memory; wrote = s.wrote; commits = length s.actions.commits; undos = length s.actions.undos; kept = nothing s.arena }))
-        saved true = tt
-        saved false = h.now
-
-        opens : IsUnwritten (pushed s props)
-        opens = record { now = h.now; blocks = (saved s.irrevocable, h.blocks) }
-
-    pub unwritten_opened : (arena : List ℕ) (props : Props) → IsUnwritten (opened m arena props)
-    unwritten_opened arena props = unwritten_entered (outside m arena) props (record { now = λ w. refl; blocks = tt })
-
-    -- bytes are written: where they are none the memory is as it was
-    unwritten_written : (s : State) (place : ℕ) (bytes : List ℕ) → IsUnwritten s → IsUnwritten (written s place bytes)
-    unwritten_written s place [] h = record { now = λ w. with_slice-nil s.memory place ∙ h.now (or_parts s.wrote false w).0; blocks = h.blocks }
-    unwritten_written s place (b ∷ bs) h = record {
-      now = λ w.
-          (let none : nat_lt 0 (length (b ∷ bs)) ≡ false = (or_parts s.wrote (nat_lt 0 (length (b ∷ bs))) w).1 in
-          let some : nat_lt 0 (length (b ∷ bs)) ≡ true = lt-ltb 0 (length (b ∷ bs)) (omega arith) in
-          absurd (let z = sym some ∙ none in cc));
-      blocks = h.blocks;
-    }
-
-    unwritten_copied : (s : State) (pair : CopyPair) (place : ℕ) (bytes : List ℕ) → IsUnwritten s → IsUnwritten (target_written s pair place bytes)
-    unwritten_copied s (In from) place bytes h = record { now = h.now; blocks = h.blocks }
-    unwritten_copied s pair place bytes h = unwritten_written s place bytes h
-
-    unwritten_effect : (s : State) (c : Call) → is_open s ≡ true → IsUnwritten s → IsUnwritten (effect s c)
-    unwritten_effect s (Begin props room) o h =
-        subst (λ (b : Bool). IsUnwritten (if b then entered s props else opened s.memory s.arena props)) (sym o) (unwritten_entered s props h)
-    unwritten_effect s Commit o h = record { now = h.now; blocks = unwritten_closed s.blocks h.blocks }
-    unwritten_effect s (Abort true) o h = unwritten_undone s s.blocks h h.blocks
-    unwritten_effect s (Abort false) o h = unwritten_back s s.blocks h h.blocks
-    unwritten_effect s (Mode room) o h = unwritten_irrevocable s h
-    unwritten_effect s (Write hint at value) o h = unwritten_written s at value.bytes.items h
-    unwritten_effect s (Log width at) o h = record { now = h.now; blocks = unwritten_logged s.blocks s.arena at (size_of width) h.blocks }
-    unwritten_effect s (LogBytes at size) o h = record { now = h.now; blocks = unwritten_logged s.blocks s.arena at size h.blocks }
-    unwritten_effect s (Copy c) o h = unwritten_copied s c.pair c.to (source_bytes s c.pair c.from c.size) h
-    unwritten_effect s (Fill hint to byte size) o h = unwritten_written s to (replicate size (byte % 256)) h
-    unwritten_effect s (UndoAction action) o h = elim s.irrevocable as (λ (b : Bool). IsUnwritten (if b then s else with_action s kinds.Undo action)) [ true ↦ h | false ↦ record { now = h.now; blocks = h.blocks } ]
-    unwritten_effect s c o h = record { now = h.now; blocks = h.blocks }
-
-    unwritten_call : (s : State) (c : Call) (o : Option Refusal) → is_open s ≡ true → IsUnwritten s → IsUnwritten (after_unless o s (effect s c))
-    unwritten_call s c None o h = unwritten_effect s c o h
-    unwritten_call s c (Some r) o h = h
-
-    pub unwritten : (p : P) (s : State) (xs : List CallRecord) → IsAlone rules deepest unbroken p s xs → IsUnwritten s → IsUnwritten (state_then deepest unbroken s xs)
-    unwritten p s [] a h = h
-    unwritten p s (x ∷ xs) a h = unwritten (rules.answered p x.reply) (after deepest s x.call) xs a.2 (unwritten_call s x.call (refusal deepest s x.call) (in_open (is_open s) (rules.next_call p) x.call a.0) h)
 
 -- ## Block after block
 
@@ -255,15 +142,16 @@ module _ {P : Type 0} (rules : Rules P) (laws : Obeys rules) (max_commits : ℕ)
               ap (λ (k : ℕ). (alone deepest (bytes_at deepest base all k) a).memory) at
               ∙ (ap (memory_left deepest (bytes_at deepest base all b.commits)) (sym it) ∙ ap (bytes_at deepest base all) (let n : suc b.commits ≡ b.commits + 1 = omega arith in n))
           by_commit false e =
-              let left_as = (unwritten rules deepest b.memory begun (opened b.memory x.start.arena x.start.props) a.calls.list made_alone (unwritten_opened rules deepest b.memory x.start.arena x.start.props)).now (wrote_then ∙ e) in
+              let left_as = (stands_then rules deepest b.memory begun (opened b.memory x.start.arena x.start.props) a.calls.list made_alone (stands_opened deepest b.memory x.start.arena x.start.props)).memory (wrote_then ∙ e) in
               ap (λ (s : State). s.memory) same_state ∙ (left_as ∙ (now ∙ ap (bytes_at deepest base all) (let n : b.commits ≡ b.commits + 0 = omega arith in n)))
 
       pub found_past : (rest : List Attempt) → ((j : ℕ) → b.commits ≤ j → committed_at all j ≡ committed_at (a ∷ rest) j) → (j : ℕ) → after_it.commits ≤ j → committed_at all j ≡ committed_at rest j
-      found_past rest found j l = found j (omega arith) ∙ ap (λ (w : Bool). if w then Some a else committed_at rest j) (missed (is_committed a.outcome) refl)
-        where
-          missed : (w : Bool) → is_committed a.outcome ≡ w → is_at j a ≡ false
-          missed false e = λ i. e i && (a.at == j)
-          missed true e = (λ i. e i && (a.at == j)) ∙ false_from_ne_true (a.at == j) (λ h. (let same = eqb-true a.at j h in let one = ap one_if e in omega arith))
+      found_past rest found j l =
+          let missed : is_at j a ≡ false = elim (cases_Bool (is_committed a.outcome)) [
+            | inl e ↦ (λ i. e i && (a.at == j)) ∙ false_from_ne_true (a.at == j) (λ h. (let same = eqb-true a.at j h in let one = ap one_if e in omega arith))
+            | inr e ↦ λ i. e i && (a.at == j)
+          ] in
+          found j (omega arith) ∙ ap (λ (w : Bool). if w then Some a else committed_at rest j) missed
 
   -- where these attempts have led the player
   pub record Arrives (b : Progress P) (past tail : List Attempt) (k : ℕ) : Type 0 where

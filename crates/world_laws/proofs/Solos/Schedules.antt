@@ -1,8 +1,8 @@
 -- A world that one player has to itself, after any schedule.
-use Rattle.std.proofs.Common.{◌≡◌, ℕ, zero, suc, List, [], ◌∷◌, ◌++◌, length, replicate, Result, refl, sym, ap, subst, ◌∙◌}
+use Rattle.std.proofs.Common.{◌≡◌, ℕ, zero, suc, List, [], ◌∷◌, ◌++◌, length, replicate, Result, refl, ap, subst, ◌∙◌}
 use Rattle.world_laws.proofs.Common.{AreOpaque, AreTied, CommitsInOrder, Goes, IsNew, Leads, Obeys, Rules, ShowsAlone, Takes, World, WorldFault, leads_on, observed}
-use Rattle.world_laws.proofs.Solos.Worlds.{HasSole, sole_first, sole_goes}
-use Rattle.world_laws.proofs.Solos.Results.{shows_alone}
+use Rattle.world_rules.proofs.Events.WorldEvents.{leads_keep}
+use Rattle.world_laws.{proofs.Solos.Worlds.HasSole, proofs.Solos.Worlds.sole_first, proofs.Solos.Worlds.sole_goes, proofs.Solos.Results.shows_alone}
 
 module _ {P : Type 0} (rules : Rules P) (laws : Obeys rules) where
   -- what the contracts say of a world, and that its one player has it to itself
@@ -22,16 +22,10 @@ module _ {P : Type 0} (rules : Rules P) (laws : Obeys rules) where
     sole = sole_goes rules i w new result x.one x.commits x.tied x.sole goes;
   }
 
-  led : (schedule : List ℕ) (results : List (Result (Unit {0}) WorldFault)) (w new : World P) → HasOne w → Leads rules w schedule results new → HasOne new
-  led [] [] w new x l = subst HasOne (sym l) x
-  led [] (r ∷ rs) w new x l = absurd l
-  led (i ∷ rest) [] w new x l = absurd l
-  led (i ∷ rest) (r ∷ rs) w new x l = led rest rs l.0 new (over i w l.0 r x l.1) l.2
-
   pub led_alone : (schedule : List ℕ) (results : List (Result (Unit {0}) WorldFault)) (first w : World P) → IsNew rules first → CommitsInOrder first → AreOpaque rules (observed first) → AreTied rules first
       → Leads rules first schedule results w → length first.opening ≡ 1 → ShowsAlone rules w
   led_alone schedule results first w new commits opaque tied leads one =
-      let x = led schedule results first w (record { one = one; commits = commits; opaque = opaque; tied = tied; sole = sole_first rules first new }) leads in
+      let x = leads_keep rules HasOne over schedule results first w (record { one = one; commits = commits; opaque = opaque; tied = tied; sole = sole_first rules first new }) leads in
       shows_alone rules laws w x.commits x.opaque x.tied x.sole
 
 -- events of one actor are entries of a schedule

@@ -2,8 +2,7 @@
 use Rattle.std.proofs.Common.{◌≡◌, ℕ, ◌≤◌, List, [], ◌∷◌, ◌++◌, length, IsSome, sym, ◌∙◌, append-nil, arith}
 use Rattle.world_rules.proofs.Common.{Actor, Attempt, Goes, Prior, Rows, Rules, Tries, World, begins, between, ending_at, event_result, outrun, over, prior_of, runs, shut_out, turned_away, waits_at}
 use Rattle.std.proofs.lemmas.Grind.{common_steps}
-use Rattle.world_rules.proofs.Events.WorldEvents.{told_event}
-use Rattle.world_rules.proofs.Events.Worlds.{waits_there}
+use Rattle.world_rules.{proofs.Events.WorldEvents.told_event, proofs.Events.Worlds.waits_there}
 
 -- those that had ended before stay, and others may follow them
 abbrev pub Grown : List Attempt → List Attempt → Type 0

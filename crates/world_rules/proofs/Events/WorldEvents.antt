@@ -87,9 +87,15 @@ module _ {P : Type 0} (rules : Rules P) where
       → Leads rules old schedule results between → Goes rules actor between result new
       → Leads rules old (schedule ++ actor ∷ []) (results ++ result ∷ []) new
   leads_on old between new [] [] actor result l g = (new, subst (λ (w : World P). Goes rules actor w result new) l g, refl)
-  leads_on old between new [] (r ∷ rs) actor result l g = absurd l
-  leads_on old between new (a ∷ rest) [] actor result l g = absurd l
   leads_on old between new (a ∷ rest) (r ∷ rs) actor result l g = (l.0, l.1, leads_on l.0 between new rest rs actor result l.2 g)
+  leads_on old between new schedule results actor result l g = absurd l
+
+  -- what each entry keeps is kept by all of them
+  pub leads_keep : (K : World P → Type 0) → ((i : ℕ) (w new : World P) (result : Result (Unit {0}) WorldFault) → K w → Goes rules i w result new → K new)
+      → (schedule : List ℕ) (results : List (Result (Unit {0}) WorldFault)) (w new : World P) → K w → Leads rules w schedule results new → K new
+  leads_keep K keeps [] [] w new k l = subst K (sym l) k
+  leads_keep K keeps (i ∷ rest) (r ∷ rs) w new k l = leads_keep K keeps rest rs l.0 new (keeps i w l.0 r k l.1) l.2
+  leads_keep K keeps schedule results w new k l = absurd l
 
 -- the counts with one result more
 abbrev pub noted : Passes → Result (Unit {0}) WorldFault → Passes

@@ -1,10 +1,11 @@
 -- The stage of an actor's attempt, and what an answer makes of it.
-use Rattle.tx_runs.proofs.TookIn.{IsTaken, OpensBy, is_taken}
-use Rattle.std.proofs.Common.{◌≡◌, ◌⊎◌, inl, inr, ℕ, ◌+◌, ◌-◌, ◌/◌, ◌<◌, ◌≤◌, Bool, true, false, nat_lt, if◌then◌else◌, List, [], ◌∷◌, ◌++◌, append_assoc, append-nil, length, Option, None, Some, unwrap_or, refl, sym, ap, subst, ◌∙◌, arith, Vec, Global, vec_capacity}
-use Rattle.world_rules.proofs.Common.{Actor, AllOf, Answer, Attempt, BeganIn, Begin, Call, Core, Ended, GaveUp, HasPoints, HasRow, IsKept, IsSame, KeepsOthers, Outcome, Props, Ran, Ready, Records, Reply as Replied, Rows, Rules, Stage, Taken, TakesTo, active_of, begun_in, cancels_in, count_in, count_of, ends_in, in_transaction, irrevocable_room, length-append, moved_to, none-some, open_in, pending_of, points_in, reserved, rows_in, same_Some, stage_of, stand_of, status_after, tally_of, took_in}
-use Rattle.tx_runs.specs.Tallies.{outside, begins, stage_at}
+use Rattle.tx_runs.proofs.TookIn.{IsTaken, OpensBy, is_taken, tried_as}
+use Rattle.std.proofs.Common.{◌≡◌, ◌⊎◌, inl, inr, ℕ, ◌+◌, ◌-◌, ◌/◌, ◌<◌, ◌≤◌, Bool, true, false, nat_lt, List, [], ◌∷◌, ◌++◌, append_assoc, append-nil, length, Option, None, Some, unwrap_or, refl, sym, ap, subst, ◌∙◌, arith, Vec, Global, vec_capacity}
+use Rattle.world_rules.proofs.Common.{Actor, AllOf, Answer, Attempt, Begin, Call, Core, Ended, GaveUp, HasPoints, HasRow, IsKept, IsSame, KeepsOthers, Outcome, Props, Ran, Ready, Records, Reply as Replied, Rows, Rules, Stage, Taken, TakesTo, active_of, begun_in, cases_Bool, count_in, count_of, in_transaction, irrevocable_room, length-append, moved_to, none-some, open_in, pending_of, points_in, reserved, rows_in, same_Some, stage_of, stand_of, status_after, tally_of, took_in}
 use Rattle.tx_attempts.specs.declared.attempt.Outcome.TheVariants as outcomes
 use Rattle.tx_runs.specs.Savepoints.{cut_back}
+use Rattle.tx_runs.specs.Tallies.{outside, begins, stage_at}
+use Rattle.world_rules.specs.ActionRoom.{BeganIn}
 use Rattle.norec_core.specs.declared.answer.Answer.TheVariants.{Busy, Conflict, Reply, Restarted}
 use Rattle.tx_runs.specs.declared.player_run.Current.{Current}
 use Rattle.norec_core.specs.Restarts.{IsRestart}
@@ -53,14 +54,6 @@ pub moved_begun : (at : ℕ) (c : Current) → begun_in (stage_of (moved_to at c
 moved_begun at Outside = refl
 moved_begun at c = refl
 
-pub moved_ends : (at : ℕ) (c : Current) → ends_in (moved_to at c) ≡ ends_in c
-moved_ends at Outside = refl
-moved_ends at c = refl
-
-pub moved_cancels : (at : ℕ) (c : Current) → cancels_in (moved_to at c) ≡ cancels_in c
-moved_cancels at Outside = refl
-moved_cancels at c = refl
-
 pub moved_count : (at : ℕ) (c : Current) → count_in (stage_of (moved_to at c)) ≡ count_in (stage_of c)
 moved_count at Outside = refl
 moved_count at c = refl
@@ -83,35 +76,27 @@ asked_at clock a call s = stage_at s call (λ props. begun a.run.thread a.run.nt
 -- the open attempt is that of before, with room for the call and what it asks for
 pub asked_open : {P : Type 0} (clock : ℕ) (a : Actor P) (call : Call) (s : Stage) (row : Attempt) → open_in (asked_at clock a call s) ≡ Some row
     → (was : Attempt) × (open_in s ≡ Some was) × (row ≡ record was { calls = reserved was.calls (unwrap_or (irrevocable_room a.engine call) 0 + 1) })
-asked_open clock a (Begin props room) outside row e = absurd (cc)
-asked_open clock a call outside row e = absurd (cc)
-asked_open clock a call (begins x) row e = absurd (cc)
 asked_open clock a call (within x points) row e = (x, refl, sym (same_Some _ _ e))
+asked_open clock a (Begin props room) outside row e = absurd (cc)
+asked_open clock a call s row e = absurd (cc)
 
 -- one that is to be opened is that of this begin
 pub asked_begun : {P : Type 0} (clock : ℕ) (a : Actor P) (call : Call) (s : Stage) (row : Attempt) → begun_in s ≡ None → begun_in (asked_at clock a call s) ≡ Some row
     → (props : Props) × (room : ℕ) × (call ≡ Begin props room) × (row ≡ begun a.run.thread a.run.nth (clock / 2) props a.engine.arena (unwrap_or (irrevocable_room a.engine call) 0))
-asked_begun clock a (Begin props room) outside row none e = (props, room, refl, sym (same_Some _ _ e))
-asked_begun clock a call outside row none e = absurd (cc)
 asked_begun clock a call (begins x) row none e = absurd (cc)
-asked_begun clock a call (within x points) row none e = absurd (cc)
+asked_begun clock a (Begin props room) outside row none e = (props, room, refl, sym (same_Some _ _ e))
+asked_begun clock a call s row none e = absurd (cc)
 
 -- nor is a block begun by it
 pub asked_points : {P : Type 0} (clock : ℕ) (a : Actor P) (call : Call) (deep : ℕ) (s : Stage) → HasPoints deep s → HasPoints deep (asked_at clock a call s)
-asked_points clock a (Begin props room) deep outside h = tt
-asked_points clock a call deep outside h = tt
-asked_points clock a call deep (begins x) h = tt
 asked_points clock a call deep (within x points) h = h
+asked_points clock a (Begin props room) deep outside h = tt
+asked_points clock a call deep s h = tt
 
 pub asked_began : {P : Type 0} (clock : ℕ) (a : Actor P) (call : Call) (s : Stage) → BeganIn s → BeganIn (asked_at clock a call s)
-asked_began clock a (Begin props room) outside b = tt
-asked_began clock a call outside b = tt
-asked_began clock a call (begins x) b = tt
 asked_began clock a call (within x points) b = b
-
-pub moved_points : (at deep : ℕ) (c : Current) → HasPoints deep (stage_of c) → HasPoints deep (stage_of (moved_to at c))
-moved_points at deep Outside h = tt
-moved_points at deep c h = h
+asked_began clock a (Begin props room) outside b = tt
+asked_began clock a call s b = tt
 
 -- ## The open attempt, where a transaction is open
 
@@ -198,10 +183,6 @@ module _ {P : Type 0} where
     pub told_pending : pending_of new ≡ begun_in taken.tally.stage
     told_pending = ap begun_in told_stage
 
-  -- a try that came to nothing: the last one, or not
-  abbrev pub tried_as : Bool → Tally P → List Attempt → Taken P
-  tried_as b t over = if b then record { tally = record t { stage = outside }; over = over; end = Some GaveUp } else record { tally = record t { nth = t.nth + 1; stage = outside }; over = over; end = None }
-
   pub tried_at : (t : Tally P) (over : List Attempt) (retries : ℕ) {r r' : Rows} {a last : Actor P} → TakesTo (tried retries t over) r r' a last → {b : Bool} → nat_lt retries t.nth ≡ b → TakesTo (tried_as b t over) r r' a last
   tried_at t over retries {r} {r'} {a} {last} x e = subst (λ (b : Bool). TakesTo (tried_as b t over) r r' a last) e x
 
@@ -214,11 +195,10 @@ module _ {P : Type 0} where
     pub either : ((nat_lt retries t.nth ≡ true) × (last.status ≡ Ended GaveUp)) ⊎ ((nat_lt retries t.nth ≡ false) × (last.status ≡ Ready) × (last.run.nth ≡ t.nth + 1))
 
   pub is_tried : (t : Tally P) (over : List Attempt) (retries : ℕ) {r r' : Rows} {a last : Actor P} → TakesTo (tried retries t over) r r' a last → IsTried t over retries r r' last
-  is_tried t over retries {r} {r'} {a} {last} x = by_case (nat_lt retries t.nth) refl
-    where
-      by_case : (b : Bool) → nat_lt retries t.nth ≡ b → IsTried t over retries r r' last
-      by_case true e = (let y = tried_at t over retries x e in record { player = told_player y; again = told_again y; stage = told_stage y; ended = y.ended; either = inl (e, y.status) })
-      by_case false e = (let y = tried_at t over retries x e in record { player = told_player y; again = told_again y; stage = told_stage y; ended = y.ended; either = inr (e, y.status, told_nth y) })
+  is_tried t over retries {r} {r'} {a} {last} x = elim (cases_Bool (nat_lt retries t.nth)) [
+    | inl e ↦ (let y = tried_at t over retries x e in record { player = told_player y; again = told_again y; stage = told_stage y; ended = y.ended; either = inl (e, y.status) })
+    | inr e ↦ (let y = tried_at t over retries x e in record { player = told_player y; again = told_again y; stage = told_stage y; ended = y.ended; either = inr (e, y.status, told_nth y) })
+  ]
 
   -- what becomes of the player
   pub reply_player : {rules : Rules P} {r r' : Rows} {a last : Actor P} {call : Call} (reply : Replied) → Records rules r r' a last call (Reply reply) → last.run.player ≡ rules.answered a.run.player reply

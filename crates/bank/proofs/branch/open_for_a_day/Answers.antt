@@ -2,8 +2,7 @@ use Rattle.std.proofs.Common.{◌≡◌, rules, IfOk, List, Result, Ok, Some, ap
 use Rattle.bank.proofs.Common.{TRANSFERS, ended}
 use Rattle.std.specs.List.{slice_get}
 use Rattle.tx_threads.proofs.Runs.{each_given}
-use Rattle.bank.specs.declared.fault.Fault.{Fault}
-use Rattle.bank.specs.declared.teller.Tally.{Tally}
+use Rattle.bank.{specs.declared.fault.Fault.Fault, specs.declared.teller.Tally.Tally}
 use Rattle.bank.proofs.branch.open_for_a_day.Goals as goal
 
 pub all_of-requires-clause-all : goal.all_of-requires-clause-all

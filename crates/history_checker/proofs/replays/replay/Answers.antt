@@ -1,7 +1,8 @@
 use Rattle.std.proofs.Common.{◌≡◌, ℕ, List, ap, sym, ◌∙◌, None, Some}
 use Rattle.history_checker.proofs.Common.{Fault, again_at, alone, breaks_of, calls_fault, end_fault, opened, state_through}
 use Rattle.history_checker.proofs.Steps.Calls.{made}
-use Rattle.history_checker.proofs.Steps.Faults.{called_fault, fault_refused, fault_early, fault_late, none_of}
+use Rattle.history_checker.proofs.Steps.Faults.{called_fault, fault_refused, fault_early, fault_late}
+use Rattle.history_checker.proofs.Steps.Firsts.{none_of}
 use Rattle.history_checker.proofs.replays.replay.Goals as goal
 use Rattle.history_checker.proofs.replays.replay.Goals.{After-is_some}
 

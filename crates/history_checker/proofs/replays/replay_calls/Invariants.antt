@@ -1,7 +1,6 @@
 use Rattle.std.proofs.Common.{◌≡◌, ◌-◌, take}
 use Rattle.history_checker.proofs.Common.{breaks_of, state_through}
-use Rattle.history_checker.proofs.Steps.Calls.{made}
-use Rattle.history_checker.proofs.Steps.Restarts.{IsReplayed}
+use Rattle.history_checker.{proofs.Steps.Calls.made, proofs.Steps.Restarts.IsReplayed}
 use Rattle.history_checker.proofs.replays.replay_calls.Given as goal
 
 abbrev pub invariant-loop-place : goal.invariant-loop-place

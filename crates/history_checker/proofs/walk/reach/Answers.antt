@@ -1,7 +1,6 @@
 use Rattle.std.proofs.Common.{◌≡◌, ◌≤◌, ℕ, None, Option, ap, arith, subst, sym, ◌∙◌, is_none, nat_le}
-use Rattle.history_checker.proofs.Common.{Spot, Undoable, and_from, committed_fault, count_committed, le-leb, memory_at}
-use Rattle.history_checker.proofs.Steps.Answers.{second_fails, some_is_not_none}
-use Rattle.history_checker.proofs.Steps.Ends.{committed_first}
+use Rattle.history_checker.proofs.Common.{Spot, Undoable, and_from, and_right, committed_fault, count_committed, le-leb, memory_at}
+use Rattle.history_checker.{proofs.Steps.Answers.some_is_not_none, proofs.Steps.Ends.committed_first}
 use Rattle.history_checker.proofs.walk.reach.Goals as goal
 
 pub returns-then-is_some : goal.returns-then-is_some
@@ -9,7 +8,7 @@ returns-then-is_some c =
     let h = c.args.history.now in
     let wrong = sym c.is_some.ensures ∙ c.if-is_some.true in
     let first = committed_first h c.loop-position.position c.args.at c.in_ok-wrong.wrong c.loop-position.invariant.fault c.in_ok-wrong.ensures.fault wrong c.loop-position-test.true in
-    second_fails (nat_le c.args.at (count_committed h.attempts)) (is_none (committed_fault h c.args.at)) (ap (λ (o : Option Spot). is_none o) (sym first) ∙ some_is_not_none c.in_ok-wrong.wrong wrong)
+    and_right (nat_le c.args.at (count_committed h.attempts)) (is_none (committed_fault h c.args.at)) (ap (λ (o : Option Spot). is_none o) (sym first) ∙ some_is_not_none c.in_ok-wrong.wrong wrong)
 
 pub returns : goal.returns
 returns c =

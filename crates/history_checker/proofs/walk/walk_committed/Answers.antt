@@ -1,6 +1,6 @@
 use Rattle.std.proofs.Common.{◌≡◌, ◌≤◌, List, [], None, Some, length, get_or, ap, sym, subst, ◌∙◌, arith}
 use Rattle.history_checker.proofs.Common.{All-get_or, Attempt, MAX_ARENA, alone, at_place, committed_at, depth_of, fault_in, is_committed, memory_at, memory_left}
-use Rattle.history_checker.proofs.Steps.Walks.{found_in, found_none, found_there, place_none}
+use Rattle.history_checker.{proofs.Steps.Firsts.place_none, proofs.Steps.Walks.found_in, proofs.Steps.Walks.found_none, proofs.Steps.Walks.found_there}
 use Rattle.history_checker.proofs.walk.walk_committed.Goals as goal
 
 pub returns-in_default-clause-fault : goal.returns-in_default-clause-fault
@@ -35,7 +35,7 @@ replay_committed-requires-clause-committed c =
     let i = c.in-Some.i in
     let a = c.attempt_at-attempt.result.now in
     let is : a ≡ get_or ts i a = c.attempt_at-attempt.ensures ∙ ap (λ (xs : List Attempt). get_or xs i a) c.as_slice.ensures in
-    ap (λ (x : Attempt). is_committed x.outcome) is ∙ (found_there 0 [] c.args.position ts i a (sym c.requires.slot ∙ c.in-Some.is)).1
+    ap (λ (x : Attempt). is_committed x.outcome) is ∙ (found_there 0 [] c.args.position ts i a (sym c.requires.slot ∙ c.in-Some.is)).0
 
 pub returns-clause-fault : goal.returns-clause-fault
 returns-clause-fault c =
@@ -47,7 +47,7 @@ returns-clause-fault c =
     let deepest = depth_of c.args.history.now.version in
     let there : c.in_ok-fault.fault ≡ fault_in deepest m a = c.in_ok-fault.ensures.fault ∙ (λ t. fault_in (c.requires.rest.depth t) (c.requires.rest.memory t) a) in
     let fault : c.in_ok-fault.fault ≡ fault_in deepest m (get_or ts i a) = there ∙ ap (fault_in deepest m) is in
-    c.at_place.ensures ∙ (ap (at_place i) fault ∙ sym (found_there deepest m c.args.position ts i a (sym c.requires.slot ∙ c.in-Some.is)).3)
+    c.at_place.ensures ∙ (ap (at_place i) fault ∙ sym (found_there deepest m c.args.position ts i a (sym c.requires.slot ∙ c.in-Some.is)).2)
 
 pub returns-clause-rest : goal.returns-clause-rest
 returns-clause-rest c = λ none.
@@ -58,7 +58,7 @@ returns-clause-rest c = λ none.
     let is : a ≡ get_or ts i a = c.attempt_at-attempt.ensures ∙ ap (λ (xs : List Attempt). get_or xs i a) c.as_slice.ensures in
     let deepest = depth_of c.args.history.now.version in
     let no : c.in_ok-fault.fault ≡ None = place_none i c.in_ok-fault.fault (sym c.at_place.ensures ∙ none) in
-    let there : committed_at ts c.args.position ≡ Some a = (found_there deepest m c.args.position ts i a (sym c.requires.slot ∙ c.in-Some.is)).2 ∙ ap (λ (x : Attempt). Some x) (sym is) in
+    let there : committed_at ts c.args.position ≡ Some a = (found_there deepest m c.args.position ts i a (sym c.requires.slot ∙ c.in-Some.is)).1 ∙ ap (λ (x : Attempt). Some x) (sym is) in
     let left : c.replay_committed.new.plain.state.memory ≡ memory_left deepest m (committed_at ts c.args.position) =
     c.in_ok-fault.ensures.memory no ∙ ((λ t. (alone (c.requires.rest.depth t) (c.requires.rest.memory t) a).memory) ∙ ap (memory_left deepest m) (sym there)) in
     record { memory = left; base = c.in_ok-fault.ensures.base no ∙ left; depth = c.replay_committed.ensures.deepest ∙ c.requires.rest.depth }

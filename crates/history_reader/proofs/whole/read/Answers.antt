@@ -1,5 +1,4 @@
-use Rattle.history_reader.proofs.RoundTrips.Texts.{text_read_again}
-use Rattle.history_reader.proofs.Exactness.Texts.{read_exact}
+use Rattle.history_reader.{proofs.RoundTrips.Texts.text_read_again, proofs.Exactness.Texts.read_exact}
 use Rattle.history_reader.proofs.whole.read.Goals as goal
 
 pub returns-in-Ok-clause-tellable : goal.returns-in-Ok-clause-tellable

@@ -1,9 +1,8 @@
 use Rattle.std.proofs.Common.{◌≡◌, ◌≤◌, ◌+◌, ℕ, length, ap, sym, subst, ◌∙◌, rules, Bool, true, false, not, get_or, refl, nat_eq}
 use Rattle.itm_model.proofs.Common.{Old, slice}
-use Rattle.std.proofs.lemmas.Slice.Eq.{bytes_eq-Decides}
-use Rattle.std.specs.Cmp.Lexicographic.{pointwise}
-use Rattle.itm_model.proofs.Journals.Rollbacks.{length-put_back}
-use Rattle.itm_model.proofs.Journals.LaidBytes.{laid_again, laid_nothing, within_at}
+use Rattle.std.{proofs.lemmas.Slice.Eq.bytes_eq-Decides, specs.Cmp.Lexicographic.pointwise}
+use Rattle.itm_model.{proofs.Journals.Rollbacks.length-put_back, proofs.Journals.LaidBytes.laid_again, proofs.Journals.LaidBytes.laid_nothing}
+use Rattle.itm_types.proofs.Elements.{all_at}
 use Rattle.itm_model.proofs.journal.is_laid.Goals as goal
 
 not-not : (b : Bool) → not (not b) ≡ b
@@ -16,7 +15,7 @@ loop-old-init c = laid_again c.args.journal.now c.args.memory.now c.args.base.no
 pub range_at-requires : goal.range_at-requires
 range_at-requires c =
     let o = c.old-item.result in
-    let within : o.place + length o.bytes.items ≤ length c.args.memory.now = subst (λ (x : Old). x.place + length x.bytes.items ≤ length c.args.memory.now) (sym c.old-item.is) (within_at (length c.args.memory.now) c.args.journal.now c.loop-old.old-index o c.requires.within c.loop-old-test.true) in
+    let within : o.place + length o.bytes.items ≤ length c.args.memory.now = subst (λ (x : Old). x.place + length x.bytes.items ≤ length c.args.memory.now) (sym c.old-item.is) (all_at (λ x. x.place + length x.bytes.items ≤ length c.args.memory.now) c.args.journal.now c.loop-old.old-index o c.requires.within c.loop-old-test.true) in
     let len = c.len-size.ensures.value in
     search (rules, within, len)
 
@@ -24,7 +23,7 @@ pub range_at-requires-in-loop-old : goal.range_at-requires-in-loop-old
 range_at-requires-in-loop-old c =
     let o = c.old-item.result in
     let m = c.args.memory.now in
-    let within : o.place + length o.bytes.items ≤ length m = subst (λ (x : Old). x.place + length x.bytes.items ≤ length m) (sym c.old-item.is) (within_at (length m) c.args.journal.now c.loop-old.old-index o c.requires.within c.loop-old-test.true) in
+    let within : o.place + length o.bytes.items ≤ length m = subst (λ (x : Old). x.place + length x.bytes.items ≤ length m) (sym c.old-item.is) (all_at (λ x. x.place + length x.bytes.items ≤ length m) c.args.journal.now c.loop-old.old-index o c.requires.within c.loop-old-test.true) in
     let len = c.len-size.ensures.value in
     let size : length c.args.base.now ≡ length m = ap (length {A = ℕ}) c.requires.base ∙ length-put_back c.args.journal.now m c.requires.within in
     search (rules, within, len, size)

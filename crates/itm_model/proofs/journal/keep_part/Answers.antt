@@ -1,7 +1,7 @@
 use Rattle.std.proofs.Common.{◌≡◌, ℕ, [], ◌∷◌, ◌++◌, length, ap, sym, subst, refl, ◌∙◌, arith}
 use Rattle.itm_model.proofs.Common.{AreWithin, Logged, Old}
-use Rattle.itm_model.proofs.Journals.Rollbacks.{length-slice, AreWithin-append}
-use Rattle.itm_model.proofs.Journals.KeptLogs.{logged_one}
+use Rattle.itm_model.{proofs.Journals.Rollbacks.length-slice, proofs.Journals.KeptLogs.logged_one}
+use Rattle.itm_types.proofs.Elements.{all_append}
 use Rattle.itm_model.proofs.journal.keep_part.Goals as goal
 
 pub returns-clause-logged : goal.returns-clause-logged
@@ -18,4 +18,4 @@ returns-clause-within c =
     let o : Old = record { place = c.args.start; bytes = c.part_at-kept.result; earlier = 0 } in
     let items : c.push_reserved.new.self.items ≡ os ++ o ∷ [] = c.push_reserved.ensures.items in
     let len : length o.bytes.items ≡ c.args.size = ap (length {A = ℕ}) c.part_at-kept.ensures ∙ length-slice c.args.bytes.now c.args.start c.args.size c.requires.range in
-    subst (AreWithin n) (sym items) (AreWithin-append n os (o ∷ []) c.requires.within (omega (arith, c.requires.range, len), tt))
+    subst (AreWithin n) (sym items) (all_append _ os (o ∷ []) c.requires.within (omega (arith, c.requires.range, len), tt))

@@ -1,6 +1,7 @@
 use Rattle.std.proofs.Common.{◌≡◌, ◌<◌, ◌+◌, ◌-◌, ℕ, length, take, set, sym, subst, ◌∙◌, arith}
 use Rattle.itm_model.proofs.Common.{AreAmong, AreNewest, Old, length-set, piece_of}
-use Rattle.itm_model.proofs.Journals.NewestEntries.{among_at, newest_forgotten}
+use Rattle.itm_model.proofs.Journals.NewestEntries.{newest_forgotten}
+use Rattle.itm_types.proofs.Elements.{all_at}
 use Rattle.itm_model.proofs.pieces.forget.Goals as goal
 
 pub index_mut-requires : goal.index_mut-requires
@@ -9,7 +10,7 @@ index_mut-requires c =
     let o = c.index-journal-left.result in
     let k = c.loop-left.left - 1 in
     let inside : k < length j = omega (arith, c.loop-left-test.true, c.loop-left.invariant.left) in
-    let among : piece_of o < length c.args.newest.now.items = subst (λ (t : Old). piece_of t < length c.args.newest.now.items) (sym c.index-journal-left.is) (among_at (length c.args.newest.now.items) j k o c.requires.among inside) in
+    let among : piece_of o < length c.args.newest.now.items = subst (λ (t : Old). piece_of t < length c.args.newest.now.items) (sym c.index-journal-left.is) (all_at (λ t. piece_of t < length c.args.newest.now.items) j k o c.requires.among inside) in
     omega (arith, among, c.piece_of.ensures, c.loop-left.invariant.count)
 
 pub loop-left-preserved : goal.loop-left-preserved

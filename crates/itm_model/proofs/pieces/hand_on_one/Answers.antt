@@ -1,23 +1,14 @@
-use Rattle.std.proofs.Common.{◌≡◌, ◌≤◌, ◌<◌, ◌+◌, ℕ, suc, inl, inr, List, [], ◌∷◌, ◌++◌, length, take, drop, get_or, set, ap, sym, subst, ◌∙◌, arith}
-use Rattle.itm_model.proofs.Common.{AreAmong, AreNewest, Old, cases_eq, common_steps, drop_more, get_or-set_other, get_or-set_same, get_or_default, length-set, length-take-le, piece_of, swap, take-set-le, take_more_set}
+use Rattle.std.proofs.Common.{◌≡◌, ◌≤◌, ◌<◌, ◌+◌, ℕ, suc, List, [], ◌∷◌, ◌++◌, length, take, drop, get_or, set, ap, sym, subst, ◌∙◌, arith}
+use Rattle.itm_model.proofs.Common.{AreAmong, AreNewest, Old, common_steps, drop_more, get_or_default, length-take-le, piece_of, swap, take_more_set}
 use Rattle.std.proofs.lemmas.List.Edits.{swap_is}
 use Rattle.itm_model.proofs.Journals.NewestEntries.{newest_pushed}
 use Rattle.itm_model.proofs.pieces.hand_on_one.Goals as goal
 
 front_stays : (xs : List Old) (i j : ℕ) (d : Old) → i ≤ j → j < length xs → take i (swap xs i j) ≡ take i xs
-front_stays xs i j d h l =
-    ap (take i) (sym (swap_is xs i j d (omega (arith, h, l)) l))
-    ∙ (take-set-le i (set xs i (get_or xs j d)) j (get_or xs i d) h ∙ take-set-le i xs i (get_or xs j d) (omega arith))
+front_stays xs i j d h l = grind (arith, common_steps, swap_is xs i j d (omega (arith, h, l)) l)
 
 comes_to : (xs : List Old) (i j : ℕ) (d : Old) → i ≤ j → j < length xs → get_or (swap xs i j) i d ≡ get_or xs j d
-comes_to xs i j d h l =
-    let ys = set xs i (get_or xs j d) in
-    let long : length ys ≡ length xs = length-set xs i (get_or xs j d) in
-    ap (λ (t : List Old). get_or t i d) (sym (swap_is xs i j d (omega (arith, h, l)) l))
-    ∙ elim (cases_eq i j) [
-      | inl e ↦ ap (λ (t : ℕ). get_or (set ys j (get_or xs i d)) t d) e ∙ (get_or-set_same ys j (get_or xs i d) d (omega (arith, l, long)) ∙ ap (λ (t : ℕ). get_or xs t d) e)
-      | inr ne ↦ get_or-set_other ys j i (get_or xs i d) d ne ∙ get_or-set_same xs i (get_or xs j d) d (omega (arith, h, l))
-    ]
+comes_to xs i j d h l = grind (arith, common_steps, swap_is xs i j d (omega (arith, h, l)) l)
 
 pub returns-clause-so_far : goal.returns-clause-so_far
 returns-clause-so_far c =

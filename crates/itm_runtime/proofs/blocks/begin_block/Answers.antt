@@ -1,5 +1,5 @@
-use Rattle.std.proofs.Common.{[], ◌∷◌, refl, sym, ◌∙◌}
-use Rattle.itm_runtime.proofs.Common.{Asks, Load, view_of}
+use Rattle.std.proofs.Common.{refl, sym, ◌∙◌}
+use Rattle.itm_runtime.proofs.Common.{Asks, Load, finds_first, last_finishes}
 use Rattle.norec_engine.proofs.BlockSteps.{closed_of}
 use Rattle.call_rules.proofs.Steps.ClockLooks.{clock_fits, clock_within, may_look}
 use Rattle.itm_runtime.proofs.blocks.begin_block.Goals as goal
@@ -23,15 +23,7 @@ returns-then-clock-ne0 g c = record {
   came = c.begin_outer.new.self;
   first = Asks (Load 0);
   called = c.begin_outer.ensures;
-  finds = record {
-    own = c.step-clock.ensures.own;
-    steps = [];
-    before = view_of c.args.pass.now;
-    step = Load 0;
-    over = c.requires.own.over;
-    leads = (refl, refl, refl);
-    stepped = record { turn = c.step-clock.ensures.turn; moves = c.step-clock.ensures.moves };
-  };
+  finds = finds_first refl c.step-clock.ensures.moves c.step-clock.ensures.turn c.step-clock.ensures.own c.requires.own.over;
 }
 
 pub returns : goal.returns
@@ -41,9 +33,5 @@ returns g c =
       came = begun.mid;
       first = Asks (Load 0);
       called = begun.called;
-      finishes = record {
-        own = c.step-clock.ensures.own;
-        steps = (Load 0, c.step-clock.result) ∷ [];
-        leads = (refl, view_of c.step-clock.new.pass, c.begin_at_once.new.self, _, record { stepped = record { turn = c.step-clock.ensures.turn; moves = c.step-clock.ensures.moves }; over = c.step-clock.ensures.own.over; resumed = begun.resumed }, (refl, refl, refl));
-      };
+      finishes = last_finishes refl c.step-clock.ensures.moves c.step-clock.ensures.turn c.step-clock.ensures.own begun.resumed;
     }

@@ -1,5 +1,5 @@
-use Rattle.std.proofs.Common.{◌≡◌, ℕ, ◌+◌, ◌∙◌, [], ◌∷◌, ap, refl, subst, sym, arith}
-use Rattle.itm_runtime.proofs.Common.{Asks, Cas, InCall, cell_within, cells_of, exchanging, goes, lawful_of, next_step, storing, view_of}
+use Rattle.std.proofs.Common.{◌≡◌, ℕ, ◌+◌, ◌∙◌, ap, subst, sym, arith}
+use Rattle.itm_runtime.proofs.Common.{Asks, Cas, InCall, cell_within, cells_of, exchanging, finds_first, goes, lawful_of, next_step, storing, then_finds, view_of}
 use Rattle.norec_core.specs.Moves.{IsResumed}
 use Rattle.itm_runtime.proofs.blocks.write_back.Goals as goal
 
@@ -20,15 +20,7 @@ overflow_add-snapshot g c =
 -- the clock was not the snapshot
 pub returns-then-found-snapshot-clause-found : goal.returns-then-found-snapshot-clause-found
 returns-then-found-snapshot-clause-found g c =
-    let n = c.snapshot-snapshot.result in record {
-      own = c.step-found.ensures.own;
-      steps = [];
-      before = view_of c.args.pass.now;
-      step = Cas 0 n (n + 1);
-      over = c.requires.own.over;
-      leads = (refl, refl, ap (λ (k : ℕ). Asks (Cas 0 k (k + 1))) c.snapshot-snapshot.ensures);
-      stepped = record { turn = c.step-found.ensures.turn; moves = c.step-found.ensures.moves };
-    }
+    finds_first (ap (λ (k : ℕ). Cas 0 k (k + 1)) c.snapshot-snapshot.ensures) c.step-found.ensures.moves c.step-found.ensures.turn c.step-found.ensures.own c.requires.own.over
 
 pub store_rows-requires : goal.store_rows-requires
 store_rows-requires g c =
@@ -51,21 +43,11 @@ store_rows-requires g c =
 pub returns-clause-stored : goal.returns-clause-stored
 returns-clause-stored g c =
     let e = exchanging c.args.engine.now in
-    let n = c.snapshot-snapshot.result in
     let same : e.snapshot ≡ c.step-found.result = sym c.snapshot-snapshot.ensures ∙ sym c.if-found-snapshot.false in
     let resumed = subst (λ (k : ℕ). IsResumed e k (Asks (next_step e 0)) (storing e 0 0)) same c.rows-rows.ensures.stores.first in
     let r = c.store_rows.ensures in
-    let f = r.finds in
     record {
       few = r.few;
       freed = r.freed;
-      finds = record {
-        own = f.own;
-        steps = (Cas 0 n (n + 1), c.step-found.result) ∷ f.steps;
-        before = f.before;
-        step = f.step;
-        over = f.over;
-        leads = (ap (λ (k : ℕ). Cas 0 k (k + 1)) c.snapshot-snapshot.ensures, view_of c.step-found.new.pass, storing e 0 0, Asks (next_step e 0), record { stepped = record { turn = c.step-found.ensures.turn; moves = c.step-found.ensures.moves }; over = c.step-found.ensures.own.over; resumed = resumed }, f.leads);
-        stepped = f.stepped;
-      };
+      finds = then_finds (ap (λ (k : ℕ). Cas 0 k (k + 1)) c.snapshot-snapshot.ensures) c.step-found.ensures.moves c.step-found.ensures.turn c.step-found.ensures.own resumed r.finds;
     }

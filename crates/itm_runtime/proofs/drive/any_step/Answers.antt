@@ -1,5 +1,5 @@
 use Rattle.std.proofs.Common.{[], ◌∷◌, refl}
-use Rattle.itm_runtime.proofs.Common.{cell_within, cells_of, fits_of, got_there, lawful_of, smaller, view_of, waits_of}
+use Rattle.itm_runtime.proofs.Common.{cell_within, cells_of, fits_of, got_there, lawful_of, leads_last, smaller, view_of, waits_of}
 use Rattle.itm_runtime.proofs.drive.any_step.Goals as goal
 
 pub step_over-found-requires : goal.step_over-found-requires
@@ -28,6 +28,6 @@ returns g c =
     record {
       own = c.step_over-found.ensures.own;
       steps = (c.args.step, c.step_over-found.result) ∷ [];
-      leads = (refl, view_of c.step_over-found.new.pass, c.resume_into.new.self, _, record { stepped = record { turn = turn; moves = c.step_over-found.ensures.moves }; over = c.step_over-found.ensures.own.over; resumed = c.resume_into.ensures }, (refl, refl, refl));
+      leads = leads_last refl c.step_over-found.ensures.moves turn c.step_over-found.ensures.own.over c.resume_into.ensures;
       less = smaller words (view_of c.args.pass.now) (view_of c.step_over-found.new.pass) over c.step_over-found.ensures.own.over c.args.engine.now c.resume_into.new.self c.args.step c.step_over-found.result turn _ c.resume_into.ensures c.requires.due.0 c.requires.due.1;
     }

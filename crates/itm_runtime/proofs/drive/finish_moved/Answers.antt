@@ -1,5 +1,5 @@
-use Rattle.std.proofs.Common.{◌∷◌, refl}
-use Rattle.itm_runtime.proofs.Common.{Load, cells_of, goes, view_of}
+use Rattle.std.proofs.Common.{refl}
+use Rattle.itm_runtime.proofs.Common.{Load, cells_of, goes, then_finishes, view_of}
 use Rattle.itm_runtime.proofs.drive.finish_moved.Goals as goal
 
 pub finish-requires-clause-due : goal.finish-requires-clause-due
@@ -9,10 +9,4 @@ finish-requires-clause-due g c =
     (d.0, goes (cells_of c.args.words.now) d.1 (view_of c.args.pass.now) d.2 c.requires.own.over c.args.engine.now c.resume_into-next.new.self (Load 0) c.args.clock d.4 _ r d.0 d.3)
 
 pub returns : goal.returns
-returns g c v stepped =
-    let f = c.finish.ensures in
-    record {
-      own = f.own;
-      steps = (Load 0, c.args.clock) ∷ f.steps;
-      leads = (refl, view_of c.args.pass.now, c.resume_into-next.new.self, _, record { stepped = stepped; over = c.requires.own.over; resumed = c.resume_into-next.ensures }, f.leads);
-    }
+returns g c v stepped = then_finishes refl stepped.moves stepped.turn c.requires.own c.resume_into-next.ensures c.finish.ensures

@@ -1,5 +1,5 @@
-use Rattle.std.proofs.Common.{[], ◌∷◌, refl, ◌+◌}
-use Rattle.itm_runtime.proofs.Common.{Load, cells_of, goes, may_look, view_of}
+use Rattle.std.proofs.Common.{refl, ◌+◌}
+use Rattle.itm_runtime.proofs.Common.{Load, cells_of, goes, last_finishes, may_look, then_finishes, view_of}
 use Rattle.itm_runtime.proofs.drive.finish_read.Goals as goal
 
 pub step-clock-requires-clause-lawful : goal.step-clock-requires-clause-lawful
@@ -13,30 +13,10 @@ finish_moved-requires-clause-due g c =
 
 pub returns-then-clock-snapshot : goal.returns-then-clock-snapshot
 returns-then-clock-snapshot g c =
-    let f = c.finish_moved.ensures (view_of c.step-value.new.pass) (record { turn = c.step-clock.ensures.turn; moves = c.step-clock.ensures.moves }) in
-    record {
-      own = f.own;
-      steps = (Load (c.args.word + 1), c.step-value.result) ∷ f.steps;
-      leads = (refl, view_of c.step-value.new.pass, c.load_fast.new.self, _, record { stepped = record { turn = c.step-value.ensures.turn; moves = c.step-value.ensures.moves }; over = c.step-value.ensures.own.over; resumed = c.load_fast.ensures.resumed }, f.leads);
-    }
+    then_finishes refl c.step-value.ensures.moves c.step-value.ensures.turn c.step-value.ensures.own c.load_fast.ensures.resumed
+    (c.finish_moved.ensures (view_of c.step-value.new.pass) (record { turn = c.step-clock.ensures.turn; moves = c.step-clock.ensures.moves }))
 
 pub returns : goal.returns
-returns g c = record {
-  own = c.step-clock.ensures.own;
-  steps = (Load (c.args.word + 1), c.step-value.result) ∷ (Load 0, c.step-clock.result) ∷ [];
-  leads = (
-    refl,
-    view_of c.step-value.new.pass,
-    c.load_fast.new.self,
-    _,
-    record { stepped = record { turn = c.step-value.ensures.turn; moves = c.step-value.ensures.moves }; over = c.step-value.ensures.own.over; resumed = c.load_fast.ensures.resumed },
-    (
-      refl,
-      view_of c.step-clock.new.pass,
-      c.confirm_fast.new.self,
-      _,
-      record { stepped = record { turn = c.step-clock.ensures.turn; moves = c.step-clock.ensures.moves }; over = c.step-clock.ensures.own.over; resumed = c.confirm_fast.ensures },
-      (refl, refl, refl),
-    ),
-  );
-}
+returns g c =
+    then_finishes refl c.step-value.ensures.moves c.step-value.ensures.turn c.step-value.ensures.own c.load_fast.ensures.resumed
+    (last_finishes refl c.step-clock.ensures.moves c.step-clock.ensures.turn c.step-clock.ensures.own c.confirm_fast.ensures)

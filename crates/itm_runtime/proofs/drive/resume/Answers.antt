@@ -1,5 +1,5 @@
-use Rattle.std.proofs.Common.{◌∷◌, refl}
-use Rattle.itm_runtime.proofs.Common.{cells_of, fits_of, goes, view_of, waits_of}
+use Rattle.std.proofs.Common.{refl}
+use Rattle.itm_runtime.proofs.Common.{cells_of, fits_of, goes, then_finishes, view_of, waits_of}
 use Rattle.itm_runtime.proofs.drive.resume.Goals as goal
 
 pub resume_into-next-requires : goal.resume_into-next-requires
@@ -17,10 +17,4 @@ finish-requires-clause-due g c =
     (c.requires.done.0, goes (cells_of c.args.words.now) d.before (view_of c.args.pass.now) d.over c.requires.own.over c.args.engine.now c.resume_into-next.new.self d.step c.args.seen d.turn _ r c.requires.done.0 d.in_call)
 
 pub returns : goal.returns
-returns g c v step stepped =
-    let f = c.finish.ensures in
-    record {
-      own = f.own;
-      steps = (step, c.args.seen) ∷ f.steps;
-      leads = (refl, view_of c.args.pass.now, c.resume_into-next.new.self, _, record { stepped = stepped; over = c.requires.own.over; resumed = c.resume_into-next.ensures }, f.leads);
-    }
+returns g c v step stepped = then_finishes refl stepped.moves stepped.turn c.requires.own c.resume_into-next.ensures c.finish.ensures

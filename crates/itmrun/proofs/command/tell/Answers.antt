@@ -1,7 +1,6 @@
 use Rattle.std.proofs.Common.{sym, subst}
 use Rattle.text_commands.specs.Answers.{Says}
-use Rattle.itmrun.specs.Doing.{fault_line, fault_status}
-use Rattle.itmrun.specs.declared.command.CommandFault.{CommandFault}
+use Rattle.itmrun.{specs.Doing.fault_line, specs.Doing.fault_status, specs.declared.command.CommandFault.CommandFault}
 use Rattle.itmrun.proofs.command.tell.Goals as goal
 
 pub returns-in-Usage : goal.returns-in-Usage

@@ -1,6 +1,5 @@
 use Rattle.std.proofs.Common.{None}
-use Rattle.itmsteps.proofs.Refused.{no_memory}
-use Rattle.itmsteps.proofs.Texts.{some_text}
+use Rattle.itmsteps.{proofs.Refused.no_memory, proofs.Texts.some_text}
 use Rattle.itmsteps.proofs.command.do_text.Goals as goal
 
 pub returns-in_default : goal.returns-in_default

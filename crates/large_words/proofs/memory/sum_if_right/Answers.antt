@@ -1,6 +1,5 @@
 use Rattle.std.proofs.Common.{◌≡◌, ℕ, ◌+◌, ◌-◌, ◌<◌, List, length, take, drop, sum, get_or, slice_index, ap, ◌∙◌, subst, sym, arith, length-drop, ◌⊎◌, inl, inr}
-use Rattle.std.proofs.lemmas.Grind.{get_or_after_one}
-use Rattle.std.proofs.lemmas.List.Sums.{sum_by_more}
+use Rattle.std.{proofs.lemmas.Grind.get_or_after_one, proofs.lemmas.List.Sums.sum_by_more}
 use Rattle.large_words.specs.Layout.{added_to}
 use Rattle.large_words.proofs.memory.sum_if_right.Goals as goal
 

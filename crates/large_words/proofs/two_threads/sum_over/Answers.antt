@@ -1,6 +1,5 @@
 use Rattle.std.proofs.Common.{◌≡◌, ℕ, ◌+◌, ◌*◌, List, ◌∷◌, length, ap, ◌∙◌, arith}
-use Rattle.std.specs.List.{range_with_len}
-use Rattle.std.proofs.lemmas.List.FromFn.{length-range_with_len}
+use Rattle.std.{specs.List.range_with_len, proofs.lemmas.List.FromFn.length-range_with_len}
 use Rattle.large_words.specs.declared.layout.TheConstants.{MEBIBYTE}
 use Rattle.large_words.proofs.two_threads.sum_over.Goals as goal
 

@@ -1,7 +1,6 @@
 use Rattle.std.proofs.Common.{◌≡◌, ◌+◌, ◌*◌, ◌/◌, ◌≤◌, ◌&&◌, nat_le, true, false, length, sym, subst, ◌∙◌, arith, rules}
 use Rattle.norec_accesses.proofs.Common.{CallTurns, Data, End, Read, Word, in_block, size_of}
-use Rattle.norec_accesses.proofs.ReadCalls.ReadyReads.{ready}
-use Rattle.norec_accesses.proofs.ReadCalls.KnownReads.{known_turns}
+use Rattle.norec_accesses.{proofs.ReadCalls.ReadyReads.ready, proofs.ReadCalls.KnownReads.known_turns}
 use Rattle.norec_accesses.proofs.known.known_number.Goals as goal
 
 pub returns-clause-called : goal.returns-clause-called

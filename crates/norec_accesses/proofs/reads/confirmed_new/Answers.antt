@@ -1,7 +1,6 @@
 use Rattle.std.proofs.Common.{◌≡◌, List, None, subst, ◌∙◌, arith}
 use Rattle.norec_accesses.proofs.Common.{Row, lookup, overlay-unwritten}
-use Rattle.norec_accesses.proofs.ReadCalls.ConfirmedWords.{confirms, may_join}
-use Rattle.norec_accesses.proofs.ReadCalls.Replies.{all_before}
+use Rattle.norec_accesses.{proofs.ReadCalls.ConfirmedWords.confirms, proofs.ReadCalls.ConfirmedWords.may_join, proofs.ReadCalls.Replies.all_before}
 use Rattle.norec_accesses.proofs.reads.confirmed_new.Goals as goal
 
 pub add-requires : goal.add-requires

@@ -1,7 +1,6 @@
 use Rattle.std.proofs.Common.{ℕ, ◌+◌, length, ap, arith, rules, subst, sym}
 use Rattle.norec_blocks.proofs.Common.{Free, IsSound, storing}
-use Rattle.norec_blocks.proofs.Counts.{fits}
-use Rattle.norec_blocks.proofs.StoredRows.{sound_free}
+use Rattle.norec_blocks.{proofs.Counts.fits, proofs.StoredRows.sound_free}
 use Rattle.norec_blocks.proofs.commits.ask_free.Goals as goal
 
 pub returns-clause-sound : goal.returns-clause-sound

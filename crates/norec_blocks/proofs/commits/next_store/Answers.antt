@@ -1,8 +1,7 @@
 use Rattle.std.proofs.Common.{◌≡◌, ◌≢◌, ◌<◌, ◌*◌, ◌==◌, nat_lt, length, arith, refl, sym, ap, subst, ◌∙◌, rules}
 use Rattle.norec_blocks.proofs.Common.{AllWritesWithin-at, BackLoad, CallEnd, Code, Done, EndIrrevocable, Enters, IsHolding, Row, Store, Taking, Turns, call_of, cond-false, cond-true, core_held, in_stores, lt-ltb, ne_eqb, row_store, stored_stage, whole, write_at, write_at_of}
 use Rattle.norec_core.specs.Aims as aims
-use Rattle.norec_blocks.proofs.Blocks.IrrevocableEntries.{begin_entered, mode_entered}
-use Rattle.norec_blocks.proofs.ClockHolding.{holds_on}
+use Rattle.norec_blocks.{proofs.Blocks.IrrevocableEntries.begin_entered, proofs.Blocks.IrrevocableEntries.mode_entered, proofs.ClockHolding.holds_on}
 use Rattle.norec_blocks.proofs.commits.next_store.Goals as goal
 
 pub returns-else-written : goal.returns-else-written

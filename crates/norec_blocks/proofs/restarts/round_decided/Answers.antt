@@ -1,7 +1,6 @@
 use Rattle.std.proofs.Common.{◌+◌, length, arith}
 use Rattle.norec_blocks.proofs.Common.{InRound, aim_of, aims_later}
-use Rattle.norec_blocks.proofs.Blocks.Restarts.{may_renew, round_renewed}
-use Rattle.norec_blocks.proofs.Counts.{round_over}
+use Rattle.norec_blocks.{proofs.Blocks.Restarts.may_renew, proofs.Blocks.Restarts.round_renewed, proofs.Counts.round_over}
 use Rattle.norec_blocks.proofs.restarts.round_decided.Goals as goal
 
 pub restart-requires : goal.restart-requires

@@ -3,8 +3,7 @@ use Rattle.std.specs.Option.{option_or}
 use Rattle.itm_types.specs.declared.call.Refusal.TheVariants.{Outside, Overlap}
 use Rattle.itm_model.specs.Machine.{is_clear, or_else, unless}
 use Rattle.norec_core.specs.Copies.{source_refusal, target_refusal}
-use Rattle.norec_data.specs.View.{in_block}
-use Rattle.norec_data.proofs.OptionalRefusals.{first_of_three}
+use Rattle.norec_data.{specs.View.in_block, proofs.OptionalRefusals.first_of_three}
 use Rattle.norec_data.proofs.refusals.copy_refusal.Goals as goal
 
 pub returns : goal.returns

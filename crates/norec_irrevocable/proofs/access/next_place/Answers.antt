@@ -1,6 +1,6 @@
 use Rattle.std.proofs.Common.{◌≢◌, inl, inr, sym, ◌∙◌}
-use Rattle.norec_irrevocable.proofs.Common.{Fetch, Place, mask_of, whole}
-use Rattle.norec_irrevocable.proofs.Pieces.PlacedPieces.{mask_is, none_there, piece_there, place_ends, place_part, place_whole}
+use Rattle.norec_irrevocable.proofs.Common.{Fetch, Place, mask_of, none_there, piece_there, whole}
+use Rattle.norec_irrevocable.proofs.Pieces.PlacedPieces.{mask_is, place_ends, place_part, place_whole}
 use Rattle.norec_irrevocable.proofs.access.next_place.Goals as goal
 
 pub returns-in_err-piece-clause-none : goal.returns-in_err-piece-clause-none

@@ -9,7 +9,7 @@ use Rattle.norec_irrevocable.proofs.blocks.begin.Goals as goal
 
 pub returns-in-Some : goal.returns-in-Some
 returns-in-Some c = (let s = c.args.state.now in
-    refused_turn s (Begin c.args.props c.args.room) c.in-Some.why c.requires.held (λ m mem. begin_kept s.frames.blocks s.arena s.frames.actions m s.frames.depth c.args.props c.args.room ∙ (sym c.begin_refusal-refused.ensures.refusal ∙ c.in-Some.is)) (begin_stage s c.args.props c.args.room c.requires.held.is_open) (begin_ending s c.args.props c.args.room) c.start_call.new.self c.start_call.ensures)
+    rw c.start_call.ensures (refused_turn s (Begin c.args.props c.args.room) c.in-Some.why c.requires.held (λ m mem. begin_kept s.frames.blocks s.arena s.frames.actions m s.frames.depth c.args.props c.args.room ∙ (sym c.begin_refusal-refused.ensures.refusal ∙ c.in-Some.is)) (begin_stage s c.args.props c.args.room c.requires.held.is_open) (begin_ending s c.args.props c.args.room)))
 
 served_so : (c : goal.After-enter) → (may_go c.args.state.now.frames.blocks c.args.props ≡ true) × (length c.args.state.now.frames.blocks < c.args.state.now.frames.depth)
 served_so c = rw c.in-None.is at c.begin_refusal-refused.ensures.served

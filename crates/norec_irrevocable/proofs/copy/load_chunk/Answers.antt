@@ -1,23 +1,14 @@
 use Rattle.std.proofs.Common.{◌≡◌, ℕ, suc, ◌+◌, ◌-◌, List, ◌++◌, drop, refl, sym, ap, subst, ◌∙◌}
 use Rattle.norec_irrevocable.proofs.Common.{ComesBy, Copy, Data, Done, HeldTurns, IsHeld, IsSoundAfter, Load, MayCopy, Reading, Wait, chunk_from, chunk_reading, chunks_in, copied_each, gathered, in_call, kept, pieces_of, target_written}
 use Rattle.norec_data.specs.declared.pending.Pending.TheVariants as waits
-use Rattle.norec_irrevocable.proofs.Pieces.ChunkPhases.{chunk_ends, chunk_loads, load_asks, load_comes_next, load_sound, no_loads}
-use Rattle.norec_irrevocable.proofs.Pieces.HeldCopies.{chunk_comes, copies_end}
-use Rattle.norec_irrevocable.proofs.Replies.Completions.{copy_done}
+use Rattle.access_rules.proofs.CopyChunks.{no_reading, reading_of}
+use Rattle.norec_irrevocable.proofs.Pieces.ChunkPhases.{copy_over, load_asks, load_comes_next, load_sound}
+use Rattle.norec_irrevocable.proofs.Pieces.HeldCopies.{chunk_comes}
 use Rattle.norec_irrevocable.proofs.copy.load_chunk.Goals as goal
 
 pub returns-in_default : goal.returns-in_default
-returns-in_default c bytes = record {
-  sound = c.requires.held;
-  proceeds = copy_done c.args.state.now c.requires.held.is_open c.args.copying bytes c.requires.may.served;
-  comes =
-      (λ m mem.
-      (let k = c.args.copying in
-      (sym (copies_end (kept c.args.state.now m) k c.args.number (no_loads k c.args.number _ (sym c.chunk_reading.ensures.value ∙ c.in_default.is))), refl)));
-  stays = record { opens = λ o. o; log = λ o. refl; snapshot = refl };
-  order = (let k = c.args.copying in chunk_ends k c.args.number (no_loads k c.args.number _ (sym c.chunk_reading.ensures.value ∙ c.in_default.is)));
-  ends = tt;
-}
+returns-in_default c bytes =
+    copy_over c.args.state.now c.args.copying c.args.number bytes c.requires.held c.requires.may.served (no_reading c.args.copying c.args.number (sym c.in_default.is ∙ c.chunk_reading.ensures.value))
 
 -- nothing is gathered yet
 abbrev start : goal.After-reading-2-1 → Reading → Data
@@ -34,7 +25,7 @@ returns c bytes =
     let s = c.args.state.now in
     let k = c.args.copying in
     let n = c.args.number in
-    let loads = chunk_loads k n _ c.in-Some.reading (sym c.chunk_reading.ensures.value ∙ c.in-Some.is) in
+    let loads = reading_of k n c.in-Some.reading (sym c.in-Some.is ∙ c.chunk_reading.ensures.value) in
     let chunk = loads.0 in
     let shared = c.requires.shared in
     let r : Reading = chunk_reading k n chunk in

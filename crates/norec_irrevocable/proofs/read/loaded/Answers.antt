@@ -1,10 +1,11 @@
-use Rattle.std.proofs.Common.{◌≡◌, ℕ, suc, ◌+◌, ◌<◌, ◌≤◌, ◌==◌, List, [], ◌++◌, length, drop, Some, slice_get, refl, sym, ap, subst, ◌∙◌, add-one, arith, eq-eqb}
-use Rattle.norec_irrevocable.proofs.Common.{ComesTo, Core, Data, HeldTurns, IsSoundAfter, Load, Piece, Reading, Steps, Wait, access_saved, answered, call_for, cond-false, cond-true, count_of, counted, gathered, handed, held, held_after, in_call, kept, ne_eqb, next_of, part, part_of, pieces_of, read_from, read_past, reading_of, word-pieces_of, word_of}
+use Rattle.std.proofs.Common.{◌≡◌, ℕ, suc, ◌+◌, ◌<◌, ◌≤◌, ◌==◌, List, [], ◌++◌, drop, Some, slice_get, refl, sym, ap, subst, ◌∙◌, add-one, arith, eq-eqb}
+use Rattle.norec_irrevocable.proofs.Common.{Core, Data, HeldTurns, IsSoundAfter, Load, Piece, Reading, Steps, Wait, access_saved, answered, call_for, cond-false, cond-true, count_of, counted, gathered, handed, held, in_call, kept, ne_eqb, none_there, part, part_of, piece_there, pieces_of, read_from, read_past, reading_of, word-pieces_of, word_of}
+use Rattle.norec_irrevocable.proofs.Replies.PartsOfCalls.{comes_as}
 use Rattle.norec_data.specs.declared.pending.Pending.TheVariants as waits
 use Rattle.norec_irrevocable.proofs.Pieces.ChunkPhases.{first_piece}
 use Rattle.norec_irrevocable.proofs.Replies.HeldAccesses.{gathers_on}
-use Rattle.norec_irrevocable.proofs.Pieces.LoadedPieces.{gathers_all, loads_later, longer, more_left, none_left, read_ends, reading_next, whole_length}
-use Rattle.norec_irrevocable.proofs.Pieces.PlacedPieces.{none_there, piece_there}
+use Rattle.access_rules.proofs.Readings.{longer}
+use Rattle.norec_irrevocable.proofs.Pieces.LoadedPieces.{gathers_all, loads_later, more_left, none_left, read_ends, reading_next, whole_length}
 use Rattle.norec_irrevocable.proofs.read.loaded.Goals as goal
 
 pub unreachable-requires : goal.unreachable-requires
@@ -29,7 +30,7 @@ whole-requires-clause-loaded c =
       within = loading.within;
       small = loading.small;
       purpose = loads_later s (record s { gathered = c.gather.new.value }) r.purpose r.at r.size refl refl loading.purpose;
-      sized = ap (length {A = ℕ}) c.gather.ensures ∙ (longer s.gathered.items r.at r.size r.number c.in-Some.piece c.args.seen next.piece (next.reads_on []) loading.sized ∙ whole_length r.at r.size (r.number + 1) loading.small left);
+      sized = longer s.gathered.items c.gather.new.value.items _ _ c.in-Some.piece c.args.seen next.piece.in_word (next.reads_on []) loading.sized c.gather.ensures ∙ whole_length r.at r.size (r.number + 1) loading.small left;
       spent = omega (arith, loading.spent, loading.some);
     }
 
@@ -56,7 +57,7 @@ returns-then-is_some c =
                 small = loading.small;
                 some = more c;
                 purpose = loads_later s (counted e) r.purpose r.at r.size refl refl loading.purpose;
-                sized = ap (length {A = ℕ}) c.gather.ensures ∙ longer s.gathered.items r.at r.size r.number c.in-Some.piece c.args.seen next.piece (next.reads_on []) loading.sized;
+                sized = longer s.gathered.items c.gather.new.value.items _ _ c.in-Some.piece c.args.seen next.piece.in_word (next.reads_on []) loading.sized c.gather.ensures;
                 spent = omega (arith, loading.spent);
               };
             },
@@ -123,10 +124,9 @@ returns-else-is_some c =
           let mid : record (in_call e (call_for r.purpose r.at) c.gather.new.value.items) { arena = access_saved r.purpose r.at s.arena c.gather.new.value.items } ≡ handed (held s (Load r)) c.args.seen =
           (λ i. record (in_call e (call_for r.purpose r.at) (got i)) { arena = (ap (access_saved r.purpose r.at s.arena) got ∙ sym saved) i }) in
           subst (λ (x : Core). HeldTurns x c.whole.result c.whole.new.state) mid c.whole.ensures.proceeds);
-      steps =
-          (λ m mem found.
+      steps = λ m mem found.
           (let bytes = all_gathered c m found in
-          subst (λ (b : List ℕ). ComesTo (reading_of r.purpose r (kept s m) b) (answered r.purpose b) (next_of c.whole.result c.whole.new.state) (held_after c.whole.result c.whole.new.state) m) bytes (c.whole.ensures.comes m mem)));
+          comes_as c.whole.result c.whole.new.state m (ap (reading_of r.purpose r (kept s m)) bytes, ap (answered r.purpose) bytes) (c.whole.ensures.comes m mem));
       stays = record { opens = c.whole.ensures.stays.opens; log = c.whole.ensures.stays.log; snapshot = c.whole.ensures.stays.snapshot };
       order =
           (c.whole.ensures.order ∙ sym (read_ends (read_past r.purpose) (record r { number = suc r.number }) (omega (arith, left))));

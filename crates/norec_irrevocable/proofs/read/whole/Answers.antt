@@ -1,5 +1,6 @@
 use Rattle.std.proofs.Common.{◌≡◌, ℕ, suc, ◌+◌, ◌-◌, true, drop, length, None, Some, refl, sym, ap, subst, ◌∙◌, add-one, arith, rules}
-use Rattle.norec_irrevocable.proofs.Common.{ComesTo, Copy, CopyPair, Core, Done, HeldTurns, Idle, Purpose, Reply, State, WritesShared, access_saved, answered, call_for, chunk_saved, chunk_source, chunks_in, copied_each, copy_refusal, count_of, held_after, in_call, is_in, kept, next_of, place_from, read_past, reading_of, target_written, with_slice, written_at as written}
+use Rattle.norec_irrevocable.proofs.Common.{Copy, CopyPair, Idle, Purpose, WritesShared, access_saved, answered, call_for, chunk_saved, chunk_source, chunks_in, copied_each, copy_refusal, count_of, in_call, is_in, kept, place_from, read_past, reading_of, target_written, with_slice, written_at as written}
+use Rattle.norec_irrevocable.proofs.Replies.PartsOfCalls.{turned}
 use Rattle.norec_core.specs.declared.call_parts.Target.TheVariants as into
 use Rattle.norec_irrevocable.proofs.Pieces.ChunkPhases.{few_chunks, read_in_next, read_within_next, steps_in, steps_within, target_in_arena}
 use Rattle.norec_irrevocable.proofs.Replies.Completions.{read_done}
@@ -78,40 +79,27 @@ returns-in-Value c = record {
 }
 
 pub returns-in-In : goal.returns-in-In
-returns-in-In c = record {
-  sound = (c.chunk_on.ensures c.args.state.now.gathered.items).sound;
-  proceeds =
-      (let s = c.args.state.now in
-      let r = c.args.reading in
-      let k = c.in-Chunk.copying in
-      let saved : c.put.new.self ≡ with_slice s.arena (k.to + (r.at - k.from)) s.gathered.items = c.put.ensures.bytes ∙ ap (with_slice s.arena (k.to + (r.at - k.from))) c.deref.ensures.0 in
-      subst (λ (x : Core). HeldTurns x c.chunk_on.result c.chunk_on.new.state)
-      ((λ i. record (in_call s (Copy k) s.gathered.items) { arena = saved i })
-      ∙ ((λ i. record (in_call s (Copy k) s.gathered.items) { arena = chunk_saved k (sym c.in-In.is i) r.at s.arena s.gathered.items })
-      ∙ (λ i. record (in_call s (call_for (sym c.in-Chunk.is i) r.at) s.gathered.items) { arena = access_saved (sym c.in-Chunk.is i) r.at s.arena s.gathered.items })))
-      (c.chunk_on.ensures c.args.state.now.gathered.items).proceeds);
-  comes =
-      (λ m mem.
-      (let s = c.args.state.now in
-      let r = c.args.reading in
-      let k = c.in-Chunk.copying in
-      let n = c.in-Chunk.number in
-      let place = k.to + (r.at - k.from) in
-      let saved : c.put.new.self ≡ with_slice s.arena place s.gathered.items = c.put.ensures.bytes ∙ ap (with_slice s.arena place) c.deref.ensures.0 in
-      let same : copied_each (kept (record s { arena = c.put.new.self }) m) k (drop (n + 1) (chunks_in k)) ≡ reading_of r.purpose r (kept s m) s.gathered.items =
+returns-in-In c =
+    let s = c.args.state.now in
+    let r = c.args.reading in
+    let k = c.in-Chunk.copying in
+    let n = c.in-Chunk.number in
+    let bytes = s.gathered.items in
+    let place = k.to + (r.at - k.from) in
+    let chunk = (rw c.in-Chunk.is at c.requires.loaded.purpose).0 in
+    let what = sym c.in-Chunk.is in
+    let saved : c.put.new.self ≡ with_slice s.arena place bytes = c.put.ensures.bytes ∙ ap (with_slice s.arena place) c.deref.ensures.0 in
+    turned s c.put.new.self s.gathered _ _ (c.chunk_on.ensures bytes)
+    ((λ i. record (in_call s (Copy k) bytes) { arena = saved i })
+    ∙ ((λ i. record (in_call s (Copy k) bytes) { arena = chunk_saved k (sym c.in-In.is i) r.at s.arena bytes })
+    ∙ (λ i. record (in_call s (call_for (what i) r.at) bytes) { arena = access_saved (what i) r.at s.arena bytes })))
+    (read_in_next k n chunk.chunk chunk.is (ap is_in c.in-In.is) ∙ ap read_past what)
+    (λ m mem. (
       (λ i. copied_each (kept (record s { arena = saved i }) m) k (drop (add-one n i) (chunks_in k)))
-      ∙ (sym (ap (λ (pair : CopyPair). copied_each (target_written (kept s m) pair place s.gathered.items) k (drop (suc n) (chunks_in k))) c.in-In.is)
-      ∙ sym (ap (λ (p : Purpose). reading_of p r (kept s m) s.gathered.items) c.in-Chunk.is)) in
-      let told : Done ≡ answered r.purpose s.gathered.items = sym (ap (λ (p : Purpose). answered p s.gathered.items) c.in-Chunk.is) in
-      subst (λ (x : Reply). ComesTo (reading_of r.purpose r (kept s m) s.gathered.items) x (next_of c.chunk_on.result c.chunk_on.new.state) (held_after c.chunk_on.result c.chunk_on.new.state) m) told
-      (subst (λ (x : State). ComesTo x Done (next_of c.chunk_on.result c.chunk_on.new.state) (held_after c.chunk_on.result c.chunk_on.new.state) m) same ((c.chunk_on.ensures c.args.state.now.gathered.items).comes m mem))));
-  stays = record { opens = (c.chunk_on.ensures c.args.state.now.gathered.items).stays.opens; log = (c.chunk_on.ensures c.args.state.now.gathered.items).stays.log; snapshot = (c.chunk_on.ensures c.args.state.now.gathered.items).stays.snapshot };
-  order =
-      (let loads = rw c.in-Chunk.is at c.requires.loaded.purpose in
-      let chunk = loads.0 in
-      (c.chunk_on.ensures c.args.state.now.gathered.items).order ∙ (read_in_next c.in-Chunk.copying c.in-Chunk.number chunk.chunk chunk.is (ap is_in c.in-In.is) ∙ sym (ap read_past c.in-Chunk.is)));
-  ends = (c.chunk_on.ensures c.args.state.now.gathered.items).ends;
-}
+          ∙ (sym (ap (λ (pair : CopyPair). copied_each (target_written (kept s m) pair place bytes) k (drop (suc n) (chunks_in k))) c.in-In.is)
+          ∙ ap (λ (p : Purpose). reading_of p r (kept s m) bytes) what),
+      ap (λ (p : Purpose). answered p bytes) what,
+    ))
 
 pub returns-in-Within : goal.returns-in-Within
 returns-in-Within c =
@@ -123,27 +111,16 @@ returns-in-Within c =
     let place = k.to + (r.at - k.from) in
     let chunk = (rw c.in-Chunk.is at c.requires.loaded.purpose).0 in
     let shared = (rw c.in-Chunk.is at c.requires.loaded.purpose).1 in
-    let at = c.store_chunk.ensures.goes bytes Idle (ap (λ (pair : CopyPair). chunk_source k pair place r.size s.arena bytes) c.in-Within.is) in
-    let told : Done ≡ answered r.purpose bytes = sym (ap (λ (p : Purpose). answered p bytes) c.in-Chunk.is) in
+    let what = sym c.in-Chunk.is in
     let start : place ≡ k.to + (chunk.chunk).at = omega (arith, chunk.start_is) in
-    record {
-      sound = at.sound;
-      proceeds =
-          subst (λ (x : Core). HeldTurns x c.store_chunk.result c.store_chunk.new.state)
-          ((λ i. record (in_call s (Copy k) bytes) { arena = chunk_saved k (sym c.in-Within.is i) r.at s.arena bytes })
-          ∙ (λ i. record (in_call s (call_for (sym c.in-Chunk.is i) r.at) bytes) { arena = access_saved (sym c.in-Chunk.is i) r.at s.arena bytes }))
-          at.proceeds;
-      comes = λ m mem.
-          (let left : copied_each (written (kept s m) place bytes) k (drop (n + 1) (chunks_in k)) ≡ reading_of r.purpose r (kept s m) bytes =
-          (λ i. copied_each (written (kept s m) place bytes) k (drop (add-one n i) (chunks_in k)))
+    turned s s.arena s.gathered _ _ (c.store_chunk.ensures.goes bytes Idle (ap (λ (pair : CopyPair). chunk_source k pair place r.size s.arena bytes) c.in-Within.is))
+    ((λ i. record (in_call s (Copy k) bytes) { arena = chunk_saved k (sym c.in-Within.is i) r.at s.arena bytes })
+    ∙ (λ i. record (in_call s (call_for (what i) r.at) bytes) { arena = access_saved (what i) r.at s.arena bytes }))
+    ((λ i. place_from Idle (record { target = into.Chunk k n; at = start i; size = chunk.size_is i; number = 0 }))
+    ∙ (read_within_next k n chunk.chunk chunk.is shared (ap is_in c.in-Within.is) ∙ ap read_past what))
+    (λ m mem. (
+      (λ i. copied_each (written (kept s m) place bytes) k (drop (add-one n i) (chunks_in k)))
           ∙ (sym (ap (λ (pair : CopyPair). copied_each (target_written (kept s m) pair place bytes) k (drop (suc n) (chunks_in k))) c.in-Within.is)
-          ∙ sym (ap (λ (p : Purpose). reading_of p r (kept s m) bytes) c.in-Chunk.is)) in
-          subst (λ (x : Reply). ComesTo (reading_of r.purpose r (kept s m) bytes) x (next_of c.store_chunk.result c.store_chunk.new.state) (held_after c.store_chunk.result c.store_chunk.new.state) m) told
-          (subst (λ (x : State). ComesTo x Done (next_of c.store_chunk.result c.store_chunk.new.state) (held_after c.store_chunk.result c.store_chunk.new.state) m) left (at.comes m mem)));
-      stays = at.stays;
-      order =
-          at.order
-          ∙ ((λ i. place_from Idle (record { target = into.Chunk k n; at = start i; size = chunk.size_is i; number = 0 }))
-          ∙ (read_within_next k n chunk.chunk chunk.is shared (ap is_in c.in-Within.is) ∙ sym (ap read_past c.in-Chunk.is)));
-      ends = at.ends;
-    }
+          ∙ ap (λ (p : Purpose). reading_of p r (kept s m) bytes) what),
+      ap (λ (p : Purpose). answered p bytes) what,
+    ))

@@ -1,5 +1,5 @@
 use Rattle.std.proofs.Common.{arith, sym, ◌∙◌}
-use Rattle.norec_irrevocable.proofs.Pieces.PlacedPieces.{none_there, piece_there}
+use Rattle.norec_irrevocable.proofs.Common.{none_there, piece_there}
 use Rattle.norec_irrevocable.proofs.steps.piece.Goals as goal
 
 pub unreachable-requires : goal.unreachable-requires

@@ -1,5 +1,6 @@
-use Rattle.std.proofs.Common.{◌≡◌, ℕ, ◌+◌, ◌%◌, drop, refl, sym, ap, subst, ◌∙◌, add-one, arith, rules}
-use Rattle.norec_irrevocable.proofs.Common.{ComesTo, Done, HeldTurns, State, Target, Up, chunk_from, chunk_there, chunks_in, chunks_of, copied_each, count_of, fill_from, filled_each, held_after, in_call, kept, next_of, placed_for, placed_past, rest_of, size_of, words_in-next}
+use Rattle.std.proofs.Common.{◌≡◌, ℕ, ◌+◌, ◌%◌, drop, refl, sym, ap, ◌∙◌, add-one, arith, rules}
+use Rattle.norec_irrevocable.proofs.Common.{Target, Up, chunk_from, chunk_there, chunks_in, chunks_of, copied_each, count_of, fill_from, filled_each, in_call, kept, placed_for, placed_past, rest_of, size_of, words_in-next}
+use Rattle.norec_irrevocable.proofs.Replies.PartsOfCalls.{turned}
 use Rattle.norec_irrevocable.proofs.Pieces.ChunkPhases.{few_chunks, steps_placed}
 use Rattle.norec_irrevocable.proofs.Replies.Completions.{write_done}
 use Rattle.norec_irrevocable.proofs.write.past.Goals as goal
@@ -51,32 +52,17 @@ returns-in-Value c bytes = record {
 }
 
 pub returns-in-Fill : goal.returns-in-Fill
-returns-in-Fill c bytes = record {
-  sound = (c.fill_on.ensures bytes).sound;
-  proceeds = subst (λ (t : Target). HeldTurns (in_call c.args.state.now (placed_for c.args.state.now t c.args.writing.at) bytes) c.fill_on.result c.fill_on.new.state) (sym c.in-Fill.is) (c.fill_on.ensures bytes).proceeds;
-  comes =
-      (λ m mem.
-      (let s = c.args.state.now in
-      let n = c.in-Fill.number in
-      let cs = chunks_of Up c.in-Fill.size in
-      subst (λ (x : State). ComesTo x Done (next_of c.fill_on.result c.fill_on.new.state) (held_after c.fill_on.result c.fill_on.new.state) m)
-      (ap (λ (x : ℕ). filled_each (kept s m) c.in-Fill.to (c.in-Fill.byte % 256) (drop x cs)) (add-one n) ∙ sym (ap (λ (t : Target). rest_of t (kept s m)) c.in-Fill.is)) ((c.fill_on.ensures bytes).comes m mem)));
-  stays = (c.fill_on.ensures bytes).stays;
-  order = (c.fill_on.ensures bytes).order ∙ (ap (fill_from c.in-Fill.hint c.in-Fill.to c.in-Fill.byte c.in-Fill.size) (add-one c.in-Fill.number) ∙ sym (ap placed_past c.in-Fill.is));
-  ends = (c.fill_on.ensures bytes).ends;
-}
+returns-in-Fill c bytes =
+    let s = c.args.state.now in
+    let f = c.in-Fill in
+    let is = sym f.is in
+    turned s s.arena s.gathered _ _ (c.fill_on.ensures bytes) (ap (λ (t : Target). in_call s (placed_for s t c.args.writing.at) bytes) is) (ap (fill_from f.hint f.to f.byte f.size) (add-one f.number) ∙ ap placed_past is)
+    (λ m mem. (ap (λ (x : ℕ). filled_each (kept s m) f.to (f.byte % 256) (drop x (chunks_of Up f.size))) (add-one f.number) ∙ ap (λ (t : Target). rest_of t (kept s m)) is, refl))
 
 pub returns-in-Chunk : goal.returns-in-Chunk
-returns-in-Chunk c bytes = record {
-  sound = (c.chunk_on.ensures bytes).sound;
-  proceeds = subst (λ (t : Target). HeldTurns (in_call c.args.state.now (placed_for c.args.state.now t c.args.writing.at) bytes) c.chunk_on.result c.chunk_on.new.state) (sym c.in-Chunk.is) (c.chunk_on.ensures bytes).proceeds;
-  comes =
-      (λ m mem.
-      (let s = c.args.state.now in
-      let k = c.in-Chunk.copying in
-      subst (λ (x : State). ComesTo x Done (next_of c.chunk_on.result c.chunk_on.new.state) (held_after c.chunk_on.result c.chunk_on.new.state) m)
-      (ap (λ (x : ℕ). copied_each (kept s m) k (drop x (chunks_in k))) (add-one c.in-Chunk.number) ∙ sym (ap (λ (t : Target). rest_of t (kept s m)) c.in-Chunk.is)) ((c.chunk_on.ensures bytes).comes m mem)));
-  stays = (c.chunk_on.ensures bytes).stays;
-  order = (c.chunk_on.ensures bytes).order ∙ (ap (chunk_from c.in-Chunk.copying) (add-one c.in-Chunk.number) ∙ sym (ap placed_past c.in-Chunk.is));
-  ends = (c.chunk_on.ensures bytes).ends;
-}
+returns-in-Chunk c bytes =
+    let s = c.args.state.now in
+    let k = c.in-Chunk.copying in
+    let is = sym c.in-Chunk.is in
+    turned s s.arena s.gathered _ _ (c.chunk_on.ensures bytes) (ap (λ (t : Target). in_call s (placed_for s t c.args.writing.at) bytes) is) (ap (chunk_from k) (add-one c.in-Chunk.number) ∙ ap placed_past is)
+    (λ m mem. (ap (λ (x : ℕ). copied_each (kept s m) k (drop x (chunks_in k))) (add-one c.in-Chunk.number) ∙ ap (λ (t : Target). rest_of t (kept s m)) is, refl))

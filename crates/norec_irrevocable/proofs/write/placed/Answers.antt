@@ -1,9 +1,10 @@
 use Rattle.std.proofs.Common.{◌≡◌, ℕ, suc, ◌+◌, List, [], drop, None, slice_get, slice_set, refl, sym, ap, subst, ◌∙◌, add-one, arith, inl, inr, rules}
-use Rattle.norec_irrevocable.proofs.Common.{AreBytes, ComesTo, Data, Done, Got, IsMemory, Phase, Piece, Place, State, StepsHeld, Writing, counted, held, held_after, kept, next_of, pieces_of, place_from, placed_past, placed_piece, placed_value, rest_of, step_of, written}
+use Rattle.norec_irrevocable.proofs.Replies.PartsOfCalls.{comes_as}
+use Rattle.norec_irrevocable.proofs.Common.{AreBytes, Data, Got, IsMemory, Phase, Piece, Place, StepsHeld, Writing, counted, held, is_piece, kept, no_pieces, piece_here, pieces_of, place_from, placed_past, placed_piece, placed_value, rest_of, step_of, written}
 use Rattle.norec_core.specs.declared.answer.Next.TheVariants.{Step as Asks}
 use Rattle.norec_irrevocable.proofs.Replies.HeldAccesses.{fits_stored, stores_on}
 use Rattle.norec_irrevocable.proofs.Pieces.NextPlaces.{next_sound, places_later}
-use Rattle.norec_irrevocable.proofs.Pieces.PlacedPieces.{is_piece, no_pieces, piece_here, placing_facts}
+use Rattle.norec_irrevocable.proofs.Pieces.PlacedPieces.{placing_facts}
 use Rattle.norec_irrevocable.proofs.write.placed.Goals as goal
 
 -- the piece was stored, and the next one is waited for in this phase
@@ -71,7 +72,7 @@ returns-in-None c =
           let stored : now ≡ written m (drop w.number (pieces_of w.at w.size)) bytes =
           sym (ap (λ (ps : List Piece). written now ps bytes) none) ∙ stores_on m bytes w c.args.state.now.got (piece_here w.at w.size w.number facts.0.some) fit facts.1 found in
           let there : IsMemory s.words now = fits_stored s.words m bytes w c.args.state.now.got mem fit (is_piece w.at w.size w.number facts.0.small facts.0.some) found in
-          subst (λ (x : State). ComesTo x Done (next_of c.past.result c.past.new.state) (held_after c.past.result c.past.new.state) now) (ap (λ (x : List ℕ). rest_of w.target (kept s x)) stored) ((c.past.ensures c.args.state.now.gathered.items).comes now there)));
+          comes_as c.past.result c.past.new.state now (ap (λ (x : List ℕ). rest_of w.target (kept s x)) stored, refl) ((c.past.ensures bytes).comes now there)));
       stays = (c.past.ensures c.args.state.now.gathered.items).stays;
       order =
           (let none = rw c.in-None.is at c.next_place.ensures.none in

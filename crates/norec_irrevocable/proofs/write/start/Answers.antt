@@ -1,7 +1,6 @@
 use Rattle.std.proofs.Common.{None, refl, arith, rules}
-use Rattle.norec_irrevocable.proofs.Common.{Data, counted}
+use Rattle.norec_irrevocable.proofs.Common.{Data, counted, some_count_of}
 use Rattle.norec_irrevocable.proofs.Pieces.NextPlaces.{next_sound, places_later}
-use Rattle.norec_irrevocable.proofs.Pieces.PlacedPieces.{some_count_of}
 use Rattle.norec_irrevocable.proofs.write.start.Goals as goal
 
 pub unreachable-requires : goal.unreachable-requires

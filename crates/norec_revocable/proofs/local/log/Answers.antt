@@ -1,8 +1,7 @@
 use Rattle.std.proofs.Common.{◌≡◌, ◌+◌, length, nat_le, Bool, false, Some, sym, ap, subst, refl, ◌∙◌, rules}
 use Rattle.itm_types.specs.declared.call.Call.{Call}
 use Rattle.norec_turns.specs.Moves.{CallTurns}
-use Rattle.norec_data.specs.declared.data.Data.{Data}
-use Rattle.norec_data.specs.declared.turn.Turn.TheVariants.{End}
+use Rattle.norec_data.{specs.declared.data.Data.Data, specs.declared.turn.Turn.TheVariants.End}
 use Rattle.nest_frames.specs.Nest.{Nest, log_of}
 use Rattle.itm_types.specs.declared.call.Refusal.TheVariants.{OutOfArena, Outside}
 use Rattle.itm_types.specs.KeptBytes.{also_kept}

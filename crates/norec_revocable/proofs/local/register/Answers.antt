@@ -1,12 +1,9 @@
 use Rattle.std.proofs.Common.{◌≡◌, false, Some, sym, ap, subst, refl, ◌∙◌, rules}
-use Rattle.itm_types.specs.declared.call.Call.{Call}
+use Rattle.itm_types.{specs.declared.call.Call.Call, specs.declared.call.Refusal.TheVariants.Outside, specs.Calls.registered_by}
 use Rattle.norec_turns.specs.Moves.{CallTurns}
-use Rattle.norec_data.specs.declared.data.Data.{Data}
-use Rattle.norec_data.specs.declared.turn.Turn.TheVariants.{End}
+use Rattle.norec_data.{specs.declared.data.Data.Data, specs.declared.turn.Turn.TheVariants.End}
 use Rattle.nest_frames.specs.Nest.{Nest}
-use Rattle.itm_types.specs.declared.call.Refusal.TheVariants.{Outside}
 use Rattle.std.proofs.lemmas.Result.{err_from_is_err_and}
-use Rattle.itm_types.specs.Calls.{registered_by}
 use Rattle.norec_data.specs.declared.end.CallEnd.TheVariants as ends
 use Rattle.norec_turns.proofs.ImmediateReplies.{answered, refused_as_it_was, registered_at_once, registered_starves, starved}
 use Rattle.norec_turns.proofs.Cancels.{come}

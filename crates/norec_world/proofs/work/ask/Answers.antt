@@ -1,8 +1,7 @@
 use Rattle.std.proofs.Common.{◌≡◌, ◌≤◌, ◌/◌, ◌+◌, ◌∙◌, ℕ, Option, Some, Result, Ok, Err, IfOk, OnErr, unwrap_or, true, false, refl, sym, ap, subst, arith, rules}
 use Rattle.norec_world.specs.Calls.{HasAsked, WasRefused}
 use Rattle.tx_player.specs.Rules.{Rules}
-use Rattle.world_rules.specs.LocalWork.{HasUsedUp}
-use Rattle.world_rules.specs.Rows.{Rows}
+use Rattle.world_rules.{specs.LocalWork.HasUsedUp, specs.Rows.Rows}
 use Rattle.norec_world.proofs.{Actor, Answer, AsksOf as Asks, Begin, Begins, Call, Core, in_transaction, IsAsked, IsRefused, IsUnasked, MayRunOn, Step, Within, acts_begin, acts_outside, acts_within, asked_begin, asked_outside, asked_room, asked_within, begun, count_in, irrevocable_room, is_begin, kept_room, next_in, no_begin, not_within, on_err, on_err_still, others_begun, others_same, others_within, out_outside, refused_outside, refused_within, reserved, rows_in, starves_begin, told_begin, told_outside, told_within, unasked_outside, unasked_within, used_asking, used_outside, used_within}
 use Rattle.norec_world.proofs.work.ask.Goals as goal
 

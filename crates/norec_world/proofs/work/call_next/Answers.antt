@@ -1,8 +1,7 @@
 use Rattle.std.proofs.Common.{◌≡◌, ℕ, Option, None, Some, refl, sym, ap, subst, ◌∙◌, ◌++◌}
 use Rattle.norec_world.proofs.{Actor, Answer, Answers, Asks, Core, IsTied, MayRunOn, Outcome, PlayerRun, Stage, Stand, Starves, StatusIs, Step, Waits, after_undoing, answer_falls, call_taken, call_worked, calling, due, finish_worked, idle_still, in_transaction, next_in, others_place, others_twice, over_as, rests, rows_in, stage_of, stand_of, starve_worked, tally_of, with_room}
 use Rattle.event_rules.proofs.Engines.SoundSteps.{mid}
-use Rattle.tx_runs.specs.Ranks.{restarts_left}
-use Rattle.tx_runs.specs.Tallies.{begins, outside, within}
+use Rattle.tx_runs.{specs.Ranks.restarts_left, specs.Tallies.begins, specs.Tallies.outside, specs.Tallies.within}
 use Rattle.tx_attempts.specs.declared.attempt.Outcome.TheVariants as outcomes
 use Rattle.norec_world.proofs.work.call_next.Goals as goal
 

@@ -1,8 +1,6 @@
 use Rattle.std.proofs.Common.{ℕ}
-use Rattle.std.specs.Io.KnownBytes.{Appends}
-use Rattle.std.specs.Prelude.{slice_get}
-use Rattle.picture_parts.specs.Texts.{first_texts}
-use Rattle.picture_parts.specs.Lanes.{lane_at}
+use Rattle.std.{specs.Io.KnownBytes.Appends, specs.Prelude.slice_get}
+use Rattle.picture_parts.{specs.Texts.first_texts, specs.Lanes.lane_at}
 use Rattle.picture_parts.proofs.lanes.put_lanes.Given as goal
 
 abbrev pub invariant-loop-lane : goal.invariant-loop-lane

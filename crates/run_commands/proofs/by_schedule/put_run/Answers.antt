@@ -1,5 +1,5 @@
 use Rattle.std.proofs.Common.{Ok, ap, sym, ◌∙◌}
-use Rattle.run_commands.proofs.Common.{Appends-kept, Standing, cut_through, flushed, put_through, thread_rules}
+use Rattle.run_commands.proofs.Common.{Appends-kept, StreamState, cut_through, flushed, put_through, thread_rules}
 use Rattle.run_commands.proofs.Plays.{cut_as, cut_whole, none_ok, on_any, on_err}
 use Rattle.run_commands.proofs.WrittenWorlds.{cut_written}
 use Rattle.run_commands.proofs.by_schedule.put_run.Goals as goal
@@ -13,7 +13,7 @@ pub returns-in_err-play-clause-played : goal.returns-in_err-play-clause-played
 returns-in_err-play-clause-played g c =
     let name = sym (c.play.ensures.sends.same ∙ c.new-stream.ensures.same) in
     let played = c.in_err-play.ensures.played in
-    let before = ap (λ (s : Standing). s.written) c.new-stream.ensures.nothing in
+    let before = ap (λ (s : StreamState). s.written) c.new-stream.ensures.nothing in
     let after = ap g.W.Write.contents (c.writer-1.given.1 name) in
     record {
       leads = none_ok _ c.from_residual.result c.from_residual.ensures.0;

@@ -1,7 +1,6 @@
 use Rattle.std.proofs.Common.{List, ℕ, ◌∙◌, ap, subst}
 use Rattle.run_commands.proofs.Common.{Appends, HistoryFits, IsCutOff, Item, ItemsLead, Version, endings_of, err_from_is_err_and, history_text, thread_rules, told_of, version_of}
-use Rattle.run_commands.proofs.ProgramPages.{world_of_run}
-use Rattle.run_commands.proofs.WrittenWorlds.{told, begun}
+use Rattle.run_commands.{proofs.ProgramPages.world_of_run, proofs.WrittenWorlds.told, proofs.WrittenWorlds.begun}
 use Rattle.run_commands.proofs.by_schedule.run_items.Goals as goal
 
 pub returns-in_err-write_run : goal.returns-in_err-write_run

@@ -3,8 +3,7 @@ use Rattle.run_commands.proofs.Common.{All-from_recursion, MAX_ACTORS, MAX_ARENA
 use Rattle.itm_types.specs.Limits.{AreWithin}
 use Rattle.script_program.specs.Sizes.{IsSize}
 use Rattle.report_rules.proofs.Histories.ToldLimits.{limited_listing}
-use Rattle.run_commands.proofs.Plays.{if_any}
-use Rattle.run_commands.proofs.ScheduleItems.{outside}
+use Rattle.run_commands.{proofs.Plays.if_any, proofs.ScheduleItems.outside}
 use Rattle.run_commands.proofs.running.begin.Goals as goal
 
 pub new-requires-2-clause-players : goal.new-requires-2-clause-players

@@ -1,7 +1,7 @@
 use Rattle.std.proofs.Common.{sym, ◌∙◌, arith}
 use Rattle.script_asm.proofs.Common.{fields}
 use Rattle.script_asm.proofs.LineItems.{refused_items, stop_next, end_beyond, end_none, end_items}
-use Rattle.script_fields.specs.declared.fault.AsmKind.TheVariants as kinds
+use Rattle.script_fields.specs.declared.fault.FaultKind.TheVariants as kinds
 use Rattle.script_asm.proofs.items.count_items.Goals as goal
 
 pub returns-in-Err-Operand-clause-refused : goal.returns-in-Err-Operand-clause-refused

@@ -1,6 +1,5 @@
 use Rattle.std.proofs.Common.{◌++◌, List, ap, ◌∙◌}
-use Rattle.script_program.specs.declared.instruction.Instruction.{Instruction}
-use Rattle.script_program.proofs.Repeats.{one_more}
+use Rattle.script_program.{specs.declared.instruction.Instruction.Instruction, proofs.Repeats.one_more}
 use Rattle.script_program.proofs.threads.copies.Goals as goal
 
 pub loop-preserved : goal.loop-preserved

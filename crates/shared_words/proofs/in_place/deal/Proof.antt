@@ -3,7 +3,7 @@ use Rattle.atomic_table.proofs.Names.{Val, vstruct, fsep, ‵, some, ◌$◌, mo
 use Rattle.std.proofs.Common.{drop as drop_list}
 use Rattle.shared_words.proofs.Common.{Goes-dropped, Good, HandData, InBlock, List, Ptr, Ptr-Good, RawPtr, SProp, Stays, TableId, Token, Ty, Valss, View, addr, agg, alive, alloc_all, and_then, at_ret, await, blocks, by, deals, dealt_good, emp, enter, env, exec, fact, fact_i, fat, first, fjoin3, free_all, from, ftrue, full_share, get, given, hand_good, hand_made, hand_of, join, keep, later, learn, leaves, length, lit<, load, look, look_at, mem, mine, no_more, of_list, of_opd, opening, owns, pair_of, pass_all, pick, plain, proved, ptr_val, qed, raw, rawptr_Tells, rawptr_vals, refl, returns, rewrite, sets, sets_last, split, spot_of, stay_dropped, stop, strip, strip_lies, table_owns, tables, through, token_made, token_val, types_at, u64, u8, use0, use1, use2, via, walk_of, yes, ℕ, !, [], ◌*◌, ◌++◌, ◌<◌, ◌^◌, ◌∵◌, ◌∷◌, ◌≡◌, ◌⊛◌}
 use Rattle.std.proofs.VecSteps.Shapes.{after}
-use Rattle.shared_words.specs.contracts.rule.CoreTableRuleU8ViewInitialWords.TheImpl as rule
+use Rattle.shared_words.specs.contracts.rule.CellRuleTableRuleU8ViewInitialWords.TheImpl as rule
 use Rattle.shared_words.specs.contracts.in_place.Row as row
 use Rattle.shared_words.specs.contracts.in_place.deal as f
 use Rattle.shared_words.specs.contracts.in_place.deal.Key.{name as key}

@@ -2,7 +2,7 @@
 use Rattle.shared_words.proofs.Common.{Final, Fml, Goes-dropped, InBlock, List, Ptr, SProp, Stays, TableId, Ty, addr, agg, alive, alloc_all, and_then, assigns_last, at_ret, await, block_ptr, blocks, by, emp, enter, env, exec, fact, fact_i, fat, first, free_all, from, ftrue, full_share, gathers, get, given, hand_good, hand_of, hand_told, keep, later, learn, leaves, length, lit, lit<, look_at, no_more, of_opd, owns, pass_all, pick, plain, proved, qed, raw, refl, returns, sets, split, split3, spot_of, stay_dropped, stop, store, strip, table_lies, table_owns, tables, through, types_at, u64, u8, use0, use1, via, walk_of, yes, ℕ, !, [], ◌∵◌, ◌∷◌, ◌≡◌, ◌⊛◌}
 use Rattle.atomic_table.proofs.Names.{Val, ‵, some, ◌$◌, move, drop, fsplit, fjoin, nothing}
 use Rattle.std.proofs.VecSteps.Shapes.{after}
-use Rattle.shared_words.specs.contracts.rule.CoreTableRuleU8ViewInitialWords.TheImpl as rule
+use Rattle.shared_words.specs.contracts.rule.CellRuleTableRuleU8ViewInitialWords.TheImpl as rule
 use Rattle.shared_words.specs.contracts.in_place.Row as row
 use Rattle.shared_words.specs.contracts.in_place.gather as f
 use Rattle.shared_words.specs.contracts.in_place.gather.Key.{name as key}

@@ -2,7 +2,7 @@
 use Rattle.shared_words.proofs.Common.{Final, Fml, Goes-dropped, Goes-ref, InBlock, List, Ptr, SProp, Seen, Stays, TableId, Ty, addr, agg, alloc_all, and_then, assigns_last, at_ret, await, block_ptr, blocks, by, closes, emp, enter, env, exec, fact, fact_i, fat, first, fjoin3, flft, free_all, from, fsplit3, ftrue, full_share, gathers_with, get, given, hand_good, hand_of, hand_told, join, keep, later, learn, leaves, length, lit, lit<, look_at, mine, mut_Tells, mut_vals, named, no_more, of_opd, opens, owns, pass_all, pick, plain, proved, qed, raw, refl, returns, rewrite, sets, split, split3, spot_of, stay_dropped, stay_ref, stop, store, strip, sym, table_lies, table_owns, tables, through, types_at, u64, u8, use0, use1, use2, via, vptr, walk_of, yes, ℕ, !, [], ◌∵◌, ◌∷◌, ◌≡◌, ◌⊛◌}
 use Rattle.atomic_table.proofs.Names.{Val, ‵, some, ◌$◌, move, drop, fsplit, fjoin, feq_i, nothing}
 use Rattle.std.proofs.VecSteps.Shapes.{after}
-use Rattle.shared_words.specs.contracts.rule.CoreTableRuleU8ViewInitialWords.TheImpl as rule
+use Rattle.shared_words.specs.contracts.rule.CellRuleTableRuleU8ViewInitialWords.TheImpl as rule
 use Rattle.shared_words.specs.contracts.in_place.Row as row
 use Rattle.shared_words.specs.contracts.in_place.gather_with as f
 use Rattle.shared_words.specs.contracts.in_place.gather_with.Key.{name as key}

@@ -1,5 +1,5 @@
 use Rattle.std.proofs.Common.{ℕ, length, slice_get}
-use Rattle.step_picture.proofs.Common.{Appends-nil, err_from_is_err_and, mark_at}
+use Rattle.step_picture.proofs.Common.{Appends-nil, mark_at, puts_cut}
 use Rattle.picture_parts.proofs.Texts.{more_texts, texts_stop}
 use Rattle.step_picture.proofs.drawing.put_marks.Goals as goal
 
@@ -10,6 +10,4 @@ pub loop-at-preserved : goal.loop-at-preserved
 loop-at-preserved g c = more_texts (λ (i : ℕ). mark_at c.args.columns.now c.args.marks.now i (slice_get c.args.marks.now i)) _ _ _ c.loop-at.at c.loop-at.invariant c.in_ok-put_mark.ensures
 
 pub returns-in_err-put_mark : goal.returns-in_err-put_mark
-returns-in_err-put_mark g c =
-    let p = err_from_is_err_and c.from_residual.result c.from_residual.ensures.1 in
-    rw p.1 (texts_stop (λ (i : ℕ). mark_at c.args.columns.now c.args.marks.now i (slice_get c.args.marks.now i)) _ _ _ c.loop-at.at (length c.args.marks.now) c.loop-at-test.true c.loop-at.invariant c.in_err-put_mark.ensures)
+returns-in_err-put_mark g c = puts_cut _ _ _ _ c.from_residual.ensures.0 (texts_stop (λ (i : ℕ). mark_at c.args.columns.now c.args.marks.now i (slice_get c.args.marks.now i)) _ _ _ c.loop-at.at (length c.args.marks.now) c.loop-at-test.true c.loop-at.invariant c.in_err-put_mark.ensures)

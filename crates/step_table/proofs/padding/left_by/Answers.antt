@@ -1,7 +1,6 @@
 use Rattle.std.proofs.Common.{◌≡◌, length, ap, arith}
 use Rattle.step_table.proofs.Common.{spelled}
-use Rattle.hex.proofs.HexLemmas.{length-encode_with}
-use Rattle.hex.specs.Hex.{encode_lower, lower_digits}
+use Rattle.hex.{proofs.HexLemmas.length-encode_with, specs.Hex.encode_lower, specs.Hex.lower_digits}
 use Rattle.tx_history.specs.declared.pieces.Piece.{Piece}
 use Rattle.step_table.proofs.padding.left_by.Goals as goal
 

@@ -1,7 +1,6 @@
 use Rattle.std.proofs.Common.{[], refl, ◌∙◌, arith}
 use Rattle.step_table.proofs.Common.{Appends-nil, RowsOf, err_from_is_err_and, no_more_first, no_more_on, run_falls}
-use Rattle.step_table.proofs.RowLists.{both_of, none_of}
-use Rattle.step_table.proofs.ShownRows.{written_begun, written_on}
+use Rattle.step_table.{proofs.RowLists.both_of, proofs.RowLists.none_of, proofs.ShownRows.written_begun, proofs.ShownRows.written_on}
 use Rattle.step_table.proofs.showing.run_out.Goals as goal
 
 pub loop-alloc-init : goal.loop-alloc-init

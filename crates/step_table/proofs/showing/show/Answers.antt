@@ -1,6 +1,5 @@
 use Rattle.step_table.proofs.Common.{ScheduleFirst, ScheduleRows, err_from_is_err_and}
-use Rattle.step_table.proofs.RowLists.{schedule_unbegun}
-use Rattle.step_table.proofs.ShownRows.{begun_head, shows_table}
+use Rattle.step_table.{proofs.RowLists.schedule_unbegun, proofs.ShownRows.begun_head, proofs.ShownRows.shows_table}
 use Rattle.step_table.proofs.showing.show.Goals as goal
 
 pub returns-in_err-put_head : goal.returns-in_err-put_head

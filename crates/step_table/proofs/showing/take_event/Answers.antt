@@ -1,7 +1,6 @@
 use Rattle.step_table.proofs.Common.{SoMany, err_from_is_err_and, said}
 use Rattle.world_rules.proofs.Events.EndedAttempts.{ended_within}
-use Rattle.step_table.proofs.EventRows.{is_row}
-use Rattle.step_table.proofs.ShownRows.{begun_one, written_one}
+use Rattle.step_table.{proofs.EventRows.is_row, proofs.ShownRows.begun_one, proofs.ShownRows.written_one}
 use Rattle.step_table.proofs.showing.take_event.Goals as goal
 
 pub came_of-came-requires : goal.came_of-came-requires

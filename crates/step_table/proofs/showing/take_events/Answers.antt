@@ -1,7 +1,6 @@
 use Rattle.std.proofs.Common.{◌+◌, ◌≤◌, [], refl, ◌∙◌, arith}
 use Rattle.step_table.proofs.Common.{Appends-nil, ItemFirst, SoMany, Take, err_from_is_err_and}
-use Rattle.step_table.proofs.RowLists.{both_many, none_of}
-use Rattle.step_table.proofs.ShownRows.{written_begun, written_on}
+use Rattle.step_table.{proofs.RowLists.both_many, proofs.RowLists.none_of, proofs.ShownRows.written_begun, proofs.ShownRows.written_on}
 use Rattle.step_table.proofs.showing.take_events.Goals as goal
 
 pub loop-taken-init : goal.loop-taken-init

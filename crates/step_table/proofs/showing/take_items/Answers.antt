@@ -1,7 +1,6 @@
 use Rattle.std.proofs.Common.{◌≡◌, [], List, take, subst, refl, ◌∙◌, arith}
 use Rattle.step_table.proofs.Common.{Appends-nil, Item, ScheduleRows, common_steps, err_from_is_err_and}
-use Rattle.step_table.proofs.RowLists.{schedule_none}
-use Rattle.step_table.proofs.ShownItems.{item_begun, item_written}
+use Rattle.step_table.{proofs.RowLists.schedule_none, proofs.ShownItems.item_begun, proofs.ShownItems.item_written}
 use Rattle.step_table.proofs.showing.take_items.Goals as goal
 
 pub loop-item-init : goal.loop-item-init

@@ -1,8 +1,7 @@
 use Rattle.std.proofs.Common.{◌≡◌, ◌≤◌, length, arith, Err, Result}
 use Rattle.std.proofs.lemmas.Result.{err_from_is_err_and}
 use Rattle.tx_history.specs.declared.history.History.{History}
-use Rattle.history_reader.specs.declared.fault.ReadFault.{ReadFault}
-use Rattle.history_reader.specs.Reading.{read_of}
+use Rattle.history_reader.{specs.declared.fault.ReadFault.ReadFault, specs.Reading.read_of}
 use Rattle.text_commands.specs.declared.failure.Failure.TheVariants.{Reading}
 use Rattle.text_commands.specs.declared.judging.TheConstants.{MAX_HISTORY}
 use Rattle.text_commands.specs.Answers.{Reads}

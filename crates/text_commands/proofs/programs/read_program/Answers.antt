@@ -3,8 +3,7 @@ use Rattle.std.proofs.lemmas.Result.{err_from_is_err_and}
 use Rattle.script_fields.specs.declared.fault.AsmFault.{AsmFault}
 use Rattle.script_program.specs.Listing.{Listing}
 use Rattle.script_asm.specs.Assembly.{program_of}
-use Rattle.text_commands.specs.Answers.{Reads}
-use Rattle.text_commands.proofs.ReadTexts.{cut, no_text}
+use Rattle.text_commands.{specs.Answers.Reads, proofs.ReadTexts.cut, proofs.ReadTexts.no_text}
 use Rattle.text_commands.proofs.programs.read_program.Goals as goal
 
 pub returns-in_err-text-clause-read : goal.returns-in_err-text-clause-read

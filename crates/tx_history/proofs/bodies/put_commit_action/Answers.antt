@@ -1,7 +1,6 @@
 use Rattle.std.proofs.Common.{arith, codes}
 use Rattle.tx_history.proofs.Common.{Number, commit_action_text}
-use Rattle.tx_history.proofs.AppendedTexts.{numbers_spelled}
-use Rattle.tx_history.proofs.PagedTexts.{carries_as}
+use Rattle.tx_history.{proofs.AppendedTexts.numbers_spelled, proofs.PagedTexts.carries_as}
 use Rattle.tx_history.proofs.bodies.put_commit_action.Goals as goal
 
 pub returns : goal.returns

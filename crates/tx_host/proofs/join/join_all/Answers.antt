@@ -1,10 +1,8 @@
 use Rattle.std.proofs.Common.{rules, arith, ◌≡◌, ℕ, ◌+◌, true, false, true≢false, length, vec_len, sym, subst, refl, ◌∙◌}
 use Rattle.tx_host.proofs.Common.{HeldAmong, Joins, Listing, Promised, held_more, into_iter_items, joins_more, view_of}
-use Rattle.report_rules.specs.declared.done.Done.{Done}
-use Rattle.tx_host.proofs.Parts.{works_for}
-use Rattle.report_rules.proofs.Passes.WorkerViews.{joined_left}
+use Rattle.report_rules.{specs.declared.done.Done.Done, proofs.Passes.WorkerViews.joined_left}
+use Rattle.tx_host.{proofs.Parts.works_for, proofs.join.join_all.Goals.then-held, proofs.join.join_all.Goals.else-held}
 use Rattle.tx_host.proofs.join.join_all.Goals as goal
-use Rattle.tx_host.proofs.join.join_all.Goals.{then-held, else-held}
 
 pub take_in-holds-requires-clause-back : goal.take_in-holds-requires-clause-back
 take_in-holds-requires-clause-back g c =

@@ -1,8 +1,7 @@
 use Rattle.std.proofs.Common.{◌≡◌, ℕ, ◌≤◌, length, subst, arith}
 use Rattle.tx_host.proofs.Common.{limited_listing, opening_of, threads_of}
-use Rattle.itm_types.specs.Limits.{AreWithin}
+use Rattle.itm_types.{specs.Limits.AreWithin, specs.declared.limits.TheConstants.MAX_ARENA, specs.declared.limits.TheConstants.MAX_ACTORS}
 use Rattle.script_program.specs.Sizes.{IsSize}
-use Rattle.itm_types.specs.declared.limits.TheConstants.{MAX_ARENA, MAX_ACTORS}
 use Rattle.tx_host.proofs.threads.memories.Goals as goal
 
 pub returns-clause-limits : goal.returns-clause-limits

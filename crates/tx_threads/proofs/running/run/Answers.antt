@@ -1,9 +1,7 @@
 use Rattle.std.proofs.Common.{◌≡◌, ◌∙◌, ◌+◌, ◌-◌, ℕ, ap, arith, subst, sym}
 use Rattle.itm_types.specs.Memory.{bytes_of}
-use Rattle.shared_words.specs.Passes.{view_of}
-use Rattle.shared_words.specs.declared.view.View.{View}
-use Rattle.tx_threads.specs.Threads.{HaveRun}
-use Rattle.tx_threads.proofs.Runs.{all_run}
+use Rattle.shared_words.{specs.Passes.view_of, specs.declared.view.View.View}
+use Rattle.tx_threads.{specs.Threads.HaveRun, proofs.Runs.all_run}
 use Rattle.tx_threads.proofs.running.run.Goals as goal
 
 pub returns-clause-run : goal.returns-clause-run

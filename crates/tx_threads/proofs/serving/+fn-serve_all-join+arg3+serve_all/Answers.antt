@@ -1,11 +1,6 @@
 use Rattle.std.proofs.Common.{◌+◌, ℕ, IfOk, List, Result, ap, subst}
-use Rattle.shared_words.specs.declared.view.View.{View}
-use Rattle.shared_words.specs.InGlobal.{Words}
-use Rattle.shared_words.specs.Passes.{Owns, view_of}
-use Rattle.tx_threads.specs.Threads.{AreServed}
-use Rattle.tx_threads.specs.declared.fault.Lost.{Lost}
-use Rattle.tx_threads.specs.declared.serving.Served.{Served}
-use Rattle.tx_threads.proofs.Runs.{more_served}
+use Rattle.shared_words.{specs.declared.view.View.View, specs.InGlobal.Words, specs.Passes.Owns, specs.Passes.view_of}
+use Rattle.tx_threads.{specs.Threads.AreServed, specs.declared.fault.Lost.Lost, specs.declared.serving.Served.Served, proofs.Runs.more_served}
 use Rattle.tx_threads.proofs.serving.+fn-serve_all-join+arg3+serve_all.Goals as goal
 
 pub returns : goal.returns

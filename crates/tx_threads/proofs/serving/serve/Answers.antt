@@ -1,7 +1,5 @@
 use Rattle.std.proofs.Common.{◌∙◌, ap, sym, subst}
-use Rattle.shared_words.specs.InGlobal.{Words}
-use Rattle.shared_words.specs.Passes.{Owns, view_of}
-use Rattle.shared_words.specs.declared.pass.Pass.{Pass}
+use Rattle.shared_words.{specs.InGlobal.Words, specs.Passes.Owns, specs.Passes.view_of, specs.declared.pass.Pass.Pass}
 use Rattle.call_rules.specs.Standing.{Standing}
 use Rattle.norec_core.specs.Core.{Core}
 use Rattle.tx_threads.proofs.Runs.{one_served, opened_so}

@@ -1,12 +1,10 @@
 use Rattle.std.proofs.Common.{◌≡◌, ◌<◌, ◌≤◌, ◌+◌, ℕ, suc, Bool, None, refl, sym, ap, subst, ◌∙◌, arith}
 use Rattle.norec_core.specs.Core.{in_transaction}
-use Rattle.tx_runs.specs.declared.player_run.PlayerRun.{PlayerRun}
+use Rattle.tx_runs.{specs.declared.player_run.PlayerRun.PlayerRun, specs.Nesting.whole, specs.Ranks.rank, specs.Ranks.restarts_left}
 use Rattle.worker_rules.specs.Worker.{Worker}
 use Rattle.worker_rules.specs.Accounts.{account_of}
 use Rattle.worker_rules.specs.Calls.{IsMade, StopsAs, StopsAt}
 use Rattle.worker_rules.specs.Gates.{IsLet, call_number}
-use Rattle.tx_runs.specs.Nesting.{whole}
-use Rattle.tx_runs.specs.Ranks.{rank, restarts_left}
 use Rattle.worker_rules.specs.Workers.{Bounds, bounds_of}
 use Rattle.worker_rules.specs.Works.{course_of}
 use Rattle.worker_rules.proofs.Laws.Begins.{begins_bound, begins_works}

@@ -1,10 +1,9 @@
 use Rattle.std.proofs.Common.{◌≡◌, ◌≤◌, ℕ}
 use Rattle.norec_core.specs.Core.{in_transaction}
-use Rattle.tx_runs.specs.Nesting.{whole}
+use Rattle.tx_runs.{specs.Nesting.whole, specs.Ranks.rank, specs.Ranks.restarts_left}
 use Rattle.worker_rules.specs.Accounts.{account_of, first_account}
 use Rattle.worker_rules.specs.Calls.{HasMade}
 use Rattle.worker_rules.specs.Gates.{call_number}
-use Rattle.tx_runs.specs.Ranks.{rank, restarts_left}
 use Rattle.worker_rules.specs.Workers.{IsWorking, bounds_of}
 use Rattle.worker_rules.specs.Works.{course_of}
 use Rattle.tx_worker.proofs.run.work.Given as goal

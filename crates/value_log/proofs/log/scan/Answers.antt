@@ -1,7 +1,6 @@
 use Rattle.std.proofs.Common.{◌≡◌, ◌==◌, option_map, find, rules, tests, sym, ap, ◌∙◌}
 use Rattle.value_log.proofs.Common.{LogRow, value_found}
-use Rattle.std.proofs.lemmas.Iterator.{YieldsList-from_slice}
-use Rattle.std.proofs.lemmas.Iterator.Search.{find_from_yields_List}
+use Rattle.std.{proofs.lemmas.Iterator.YieldsList-from_slice, proofs.lemmas.Iterator.Search.find_from_yields_List}
 use Rattle.value_log.proofs.log.scan.Goals as goal
 
 pub returns-in_err-row : goal.returns-in_err-row

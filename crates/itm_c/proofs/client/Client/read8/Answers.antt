@@ -1,9 +1,7 @@
 use Rattle.std.proofs.Common.{◌∙◌, Ok}
 use Rattle.itm_c.proofs.Common.{Read, answer_to_read}
-use Rattle.itm_types.specs.declared.access.ReadHint.TheVariants.{R}
-use Rattle.itm_types.specs.declared.access.Width.TheVariants.{U8}
-use Rattle.itm_c.proofs.Comings.{comes_of}
-use Rattle.itm_c.proofs.Numbers.{number_back}
+use Rattle.itm_types.{specs.declared.access.ReadHint.TheVariants.R, specs.declared.access.Width.TheVariants.U8}
+use Rattle.itm_c.{proofs.Comings.comes_of, proofs.Numbers.number_back}
 use Rattle.itm_c.proofs.client.Client.read8.Goals as goal
 
 pub returns-in-Ok-clause-told : goal.returns-in-Ok-clause-told

@@ -2,8 +2,7 @@
 use Rattle.itm_c.proofs.Common.{Ptr, bare as raw, exits_of, fields, lone, shape, to}
 use base.Shift.{Keyless}
 use denote.Param.Send.{IsSend, AllSend, owning_send, struct_send, sendable}
-use Rattle.std.specs.Global.{Global}
-use Rattle.std.specs.Prelude.{Option, None, Some}
+use Rattle.std.{specs.Global.Global, specs.Prelude.Option, specs.Prelude.None, specs.Prelude.Some}
 use Rattle.std.proofs.Crossing as heap
 use Rattle.std_alloc.proofs.SendSync.{quiet, lies}
 use Rattle.std_heap.proofs.Global.TheSendSync as alloc

@@ -2,9 +2,8 @@
 use Rattle.itm_c.proofs.Common.{Args, B, Bx, D, Fn, Goes-blank, P, Ptr, R, RawPtr, WpFn, a_type, bare, block_ptr, bounded, box_in, box_out, box_typed, calls_at, dcons, dnil, framed, handle_tells, in_a_block, inst_fn, null_ptr, of_list, ptr_val, token, word, τ, ◌⊑◌}
 use Rattle.itm_c.proofs.Steps.{◌≡◌, List, [], ◌∷◌, ◌++◌, refl, ap, ◌∙◌, proved_at, id⊢, fst∗, never, ftrue, fsep, flft, sem, Val, vstruct, fact, tables, Item, ‵, raw, ◌⊛◌, some, later, prop, ◌$◌, ◌∵◌, !, qed, done, move, drop, use1, split, split3, join, fsplit, fjoin, fpick, feq_l, pick, await, rewrite, regoal, suffices, agg, sub, whole, enter, of_opd, stop, fld, no_more, and_then, returns, alloc_all, pass_all, free_all, look_at, get, get_in, sets, lands_as, no, plain, nothing, heard, only, triple_of, Stays, walk_of, says, stay_dropped, ends_at}
 use denote.Struct.Tuple.{Tuple}
-use Rattle.std_alloc.specs.Box.Ownership.{box_owns}
+use Rattle.std_alloc.{specs.Box.Ownership.box_owns, proofs.boxed.Box.into_raw_with_allocator.Met.met}
 use Rattle.std_alloc.specs.contracts.boxed.Box.into_raw_with_allocator as g
-use Rattle.std_alloc.proofs.boxed.Box.into_raw_with_allocator.Met.{met}
 use Rattle.itm_c.specs.contracts.parts.Parts as Parts
 use Rattle.itm_c.specs.contracts.parts.Parts.of as f
 use Rattle.itm_c.proofs.parts.Parts.of.Statement.{statement}

@@ -1,7 +1,6 @@
 use Rattle.std.proofs.Common.{◌≡◌, ℕ, List, ◌∷◌, length, drop, sym, ap, ◌∙◌, subst, arith, slice_index}
 use Rattle.itm_c.proofs.Common.{Lodged, Words, arc_value, cells_of, place_of, view_of}
-use Rattle.shared_words.specs.ClosedWords.{clock_in, words_in}
-use Rattle.shared_words.specs.Good.{Ends}
+use Rattle.shared_words.{specs.ClosedWords.clock_in, specs.ClosedWords.words_in, specs.Good.Ends}
 use Rattle.itm_c.proofs.root.Root.close.Goals as goal
 
 pub returns-in-Ok-clause-ok : goal.returns-in-Ok-clause-ok

@@ -2,7 +2,7 @@ use Rattle.std.proofs.Common.{◌≡◌, List, [], ◌∷◌, ◌++◌, length, 
 use Rattle.itm_model.proofs.Common.{ActionList, AreAmong, AreNewest, AreOnce, AreUnder, Mark, Old, Undoable, back, length-take-le, reverse-append}
 use Rattle.itm_model.proofs.Journals.Overwrites.{in_table, is_cut}
 use Rattle.itm_model.proofs.OpenBlocks.{AreUnder-more, under_last, back_is, back_nothing, fewer_blocks, state_of}
-use Rattle.itm_model.proofs.Journals.Rollbacks.{AreWithin-drop}
+use Rattle.itm_types.proofs.Elements.{all_drop}
 use Rattle.itm_model.proofs.plain.Plain.back.Goals as goal
 
 pub returns-in-Some-clause-back : goal.returns-in-Some-clause-back
@@ -13,7 +13,7 @@ returns-in-Some-clause-back c =
     let e : p.marks.items ≡ rest ++ mark ∷ [] = c.in-Some.ensures.items in
     let under = under_last (length p.journal.items) (length p.logs.items) rest mark (subst (λ (t : List Mark). AreUnder (length p.journal.items) (length p.logs.items) (reverse t)) e c.self.invariant.under) in
     back_is p.irrevocable p.journal.items p.memory.items c.unwind.new.journal.items c.unwind.new.memory.items p.arena.items c.unwind-in-Some.new.memory.items p.logs.items c.unwind-in-Some.new.journal.items rest mark p.actions.actions c.roll_back.new.self.actions p.wrote c.if-self.false
-    c.unwind.ensures.memory c.unwind.ensures.restores under.2 c.unwind-in-Some.ensures.memory c.unwind-in-Some.ensures.rest (AreWithin-drop (length p.arena.items) mark.logs p.logs.items c.self.invariant.logged) (ap (λ (t : ActionList). t.actions) c.roll_back.ensures)
+    c.unwind.ensures.memory c.unwind.ensures.restores under.2 c.unwind-in-Some.ensures.memory c.unwind-in-Some.ensures.rest (all_drop _ mark.logs p.logs.items c.self.invariant.logged) (ap (λ (t : ActionList). t.actions) c.roll_back.ensures)
     ∙ (ap (λ (t : List Mark). back (state_of p.irrevocable p.journal.items p.memory.items p.arena.items p.logs.items t p.actions.actions p.wrote)) (sym e)
     ∙ ap (λ (u : Undoable). back u.state) c.self.view_is)
 

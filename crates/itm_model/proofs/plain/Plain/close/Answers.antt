@@ -1,7 +1,7 @@
-use Rattle.std.proofs.Common.{◌≡◌, ◌<◌, List, [], ◌∷◌, ◌++◌, length, take, drop, reverse, subst, ap, sym, ◌∙◌, arith}
+use Rattle.std.proofs.Common.{◌≡◌, List, [], ◌∷◌, ◌++◌, length, take, drop, reverse, subst, ap, sym, ◌∙◌, arith}
 use Rattle.itm_model.proofs.Common.{AreOnce, AreUnder, IsSound, Mark, Undoable, closed, handed_on, put_back, reverse-append, top_of}
 use Rattle.itm_model.proofs.Journals.EntryBounds.{under_top}
-use Rattle.itm_model.proofs.OpenBlocks.{under_last, actions_stay, mode_stay, blocks_same, closed_is, state_of}
+use Rattle.itm_model.proofs.OpenBlocks.{under_last, both_stay, blocks_same, closed_is, state_of}
 use Rattle.itm_model.proofs.Journals.Overwrites.{IsHandedOn, in_table, is_handed_on}
 use Rattle.itm_model.proofs.plain.Plain.close.Goals as goal
 use Rattle.itm_model.proofs.plain.Plain.close.Goals.{After-hand_on}
@@ -57,9 +57,9 @@ returns-else-is_empty-clause-closed c =
     let e : p.marks.items ≡ rest ++ x ∷ [] = c.in-Some.ensures.items in
     let h = handed_on_is (goal.at.returns-else-is_empty-clause-closed c).After-hand_on in
     let under = under_last (length j) (length os) rest x (subst (λ (t : List Mark). AreUnder (length j) (length os) (reverse t)) e c.self.invariant.under) in
-    let around : 0 < length rest = grind (arith, c.is_empty.ensures, c.if-is_empty.false) in
+    let stay = both_stay rest p.actions.actions p.irrevocable (grind (arith, c.is_empty.ensures, c.if-is_empty.false)) in
     let blocks = blocks_same p.irrevocable j m j' m a os (top_of (reverse rest)) (length os) (reverse rest) (under_top (length j') (length os) (reverse rest) h.under) h.same in
     (λ i. record { memory = m; arena = a; blocks = blocks i; actions = p.actions.actions; wrote = p.wrote; irrevocable = p.irrevocable })
-    ∙ (closed_is p.irrevocable p.irrevocable j m a os rest x p.actions.actions p.actions.actions p.wrote under.1 under.2 (actions_stay rest p.actions.actions around) (mode_stay rest p.irrevocable around)
+    ∙ (closed_is p.irrevocable p.irrevocable j m a os rest x p.actions.actions p.actions.actions p.wrote under.1 under.2 stay.0 stay.1
     ∙ (ap (λ (t : List Mark). closed (state_of p.irrevocable j m a os t p.actions.actions p.wrote)) (sym e)
     ∙ ap (λ (u : Undoable). closed u.state) c.self.view_is))

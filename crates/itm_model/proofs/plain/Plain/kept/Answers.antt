@@ -1,8 +1,6 @@
 use Rattle.std.proofs.Common.{◌≡◌, ◌≤◌, ◌+◌, ◌*◌, ℕ, length, reverse, refl, subst, sym, ◌∙◌}
 use Rattle.itm_model.proofs.Common.{Undoable, blocks_of, length-reverse, pieces_in}
-use Rattle.itm_model.proofs.Journals.EntryBounds.{few_entries}
-use Rattle.itm_model.proofs.OpenBlocks.{length-blocks_of}
-use Rattle.itm_model.proofs.Journals.Overwrites.{in_table}
+use Rattle.itm_model.{proofs.Journals.EntryBounds.few_entries, proofs.OpenBlocks.length-blocks_of, proofs.Journals.Overwrites.in_table}
 use Rattle.itm_model.proofs.plain.Plain.kept.Goals as goal
 
 pub returns-clause-few : goal.returns-clause-few

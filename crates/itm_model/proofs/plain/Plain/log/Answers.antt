@@ -6,13 +6,8 @@ use Rattle.itm_model.proofs.plain.Plain.log.Goals as goal
 pub invariant_of-self-2 : goal.invariant_of-self-2
 invariant_of-self-2 c =
     let p = c.self.inside in
-    record {
-      within = c.self.invariant.within;
-      logged = subst (λ (t : List ℕ). AreWithin (length t) c.keep.new.logs.items) c.deref.ensures.value c.in_ok-keep.ensures.within;
-      under = AreUnder-more (length p.journal.items) (length p.journal.items) (length p.logs.items) (length c.keep.new.logs.items) (reverse p.marks.items) (omega arith) c.in_ok-keep.ensures.longer c.self.invariant.under;
-      indexed = c.self.invariant.indexed;
-      once = c.self.invariant.once;
-    }
+    let logged = subst (λ (t : List ℕ). AreWithin (length t) c.keep.new.logs.items) c.deref.ensures.value c.in_ok-keep.ensures.within in
+    assumption (logged, AreUnder-more (length p.journal.items) (length p.journal.items) (length p.logs.items) (length c.keep.new.logs.items) (reverse p.marks.items) (omega arith) c.in_ok-keep.ensures.longer c.self.invariant.under, c.self.invariant)
 
 pub returns-clause-ok : goal.returns-clause-ok
 returns-clause-ok c =

@@ -1,7 +1,6 @@
 use Rattle.std.proofs.Common.{◌≡◌, ◌+◌, ◌≤◌, ℕ, length, reverse, ap, ◌∙◌, rules}
 use Rattle.itm_model.proofs.Common.{Undoable, saved_in_arena, with_slice}
-use Rattle.itm_model.proofs.Journals.Rollbacks.{length-with_slice}
-use Rattle.itm_model.proofs.OpenBlocks.{blocks_long}
+use Rattle.itm_model.{proofs.Journals.Rollbacks.length-with_slice, proofs.OpenBlocks.blocks_long}
 use Rattle.itm_model.proofs.plain.Plain.save.Goals as goal
 
 pub returns-clause-ok : goal.returns-clause-ok

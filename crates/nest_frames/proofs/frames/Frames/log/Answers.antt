@@ -1,6 +1,6 @@
-use Rattle.std.proofs.Common.{◌≡◌, ◌<◌, ◌≤◌, List, length, ap, ◌∙◌, arith, length-append}
+use Rattle.std.proofs.Common.{◌≡◌, ◌<◌, ◌≤◌, List, length, refl, ap, ◌∙◌, arith, length-append}
 use Rattle.nest_frames.proofs.Common.{Frame, Nest, Old, found, frames_of, kept_of, log_of, logged}
-use Rattle.nest_frames.proofs.OpenBlocks.{frames_logged, length-frames_of, IsSound-logged, kept_of-logged}
+use Rattle.nest_frames.proofs.OpenBlocks.{frames_logged, length-frames_of, IsSound-kept, kept_of-logged}
 use Rattle.nest_frames.proofs.frames.Frames.log.Goals as goal
 
 pub invariant_of-self-2 : goal.invariant_of-self-2
@@ -10,7 +10,7 @@ invariant_of-self-2 c =
     let blocks = ap (λ (v : Nest). length v.blocks) c.self.view_is in
     let some : 0 < length f.moments.items = omega (arith, c.requires.open, blocks, length-frames_of f.writes f.undo.olds f.moments.items) in
     let longer : length f.undo.olds ≤ length c.log.new.self.olds = omega (arith, ap (length {A = Old}) c.in_ok-log.ensures.ok, length-append f.undo.olds new) in
-    IsSound-logged f.writes f.undo.olds c.log.new.self.olds f.actions.actions f.moments.items c.self.invariant longer some
+    IsSound-kept f.writes f.writes f.undo.olds c.log.new.self.olds f.actions.actions f.moments.items c.self.invariant refl longer some
 
 -- the blocks as the call leaves them
 blocks_are : (c : goal.In_ok-log)

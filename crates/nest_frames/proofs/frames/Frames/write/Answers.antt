@@ -1,7 +1,6 @@
-use Rattle.std.proofs.Common.{◌≡◌, ◌<◌, length, None, IsSome, ap, sym, subst, ◌∙◌}
-use Rattle.nest_frames.proofs.Common.{IsNew, Nest, false≢true, lookup, rows_of, write}
-use Rattle.nest_frames.proofs.NewRows.{IsNew-at_begin}
-use Rattle.nest_frames.proofs.OpenBlocks.{nest_written}
+use Rattle.std.proofs.Common.{IsSome, ap, sym, subst, ◌∙◌}
+use Rattle.nest_frames.proofs.Common.{Nest, false≢true, lookup, write}
+use Rattle.nest_frames.{proofs.NewRows.IsNew-at_begin, proofs.OpenBlocks.nest_written}
 use Rattle.nest_frames.proofs.frames.Frames.write.Goals as goal
 
 pub returns-clause-ok : goal.returns-clause-ok
@@ -13,9 +12,6 @@ returns-clause-ok c =
 pub returns-in_err-write-clause-has_row : goal.returns-in_err-write-clause-has_row
 returns-in_err-write-clause-has_row c row none =
     let f = c.self.inside in
-    let word = c.args.word in
-    let some = subst (λ (v : Nest). 0 < length v.blocks) (sym c.self.view_is) c.requires in
-    let here = subst (λ (v : Nest). IsSome (lookup word v.writes.rows)) (sym c.self.view_is) row in
-    let without = subst (λ (v : Nest). lookup word (rows_of v.blocks) ≡ None) (sym c.self.view_is) none in
-    let new : IsNew f.writes word = IsNew-at_begin f.writes f.undo.olds f.actions.actions f.moments.items word c.self.invariant some without in
+    let here = subst (λ (v : Nest). IsSome (lookup c.args.word v.writes.rows)) (sym c.self.view_is) row in
+    let new = IsNew-at_begin f.writes f.undo.olds f.actions.actions f.moments.items c.args.word c.args.self.now c.self.invariant (ap (λ (v : Nest). v.blocks) c.self.view_is) c.requires none in
     absurd (false≢true (c.in_err-write.ensures.has_row here new))

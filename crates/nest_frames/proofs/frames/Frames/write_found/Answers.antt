@@ -1,6 +1,6 @@
 use Rattle.std.proofs.Common.{◌≡◌, ◌<◌, inl, inr, length, ap, arith, ◌∙◌}
 use Rattle.nest_frames.proofs.Common.{Nest, Written, cases_Bool, write}
-use Rattle.nest_frames.proofs.OpenBlocks.{nest_written, length-frames_of, IsSound-written}
+use Rattle.nest_frames.proofs.OpenBlocks.{nest_written, length-frames_of, IsSound-kept}
 use Rattle.nest_frames.proofs.frames.Frames.write_found.Goals as goal
 
 pub returns-clause-written : goal.returns-clause-written
@@ -18,4 +18,4 @@ invariant_of-self c =
       | inl done ↦ ap (λ (w : Written). w.inner) (c.write_found.ensures.written done)
       | inr not ↦ ap (λ (w : Written). w.inner) (c.write_found.ensures.none not)
     ] in
-    IsSound-written f.writes c.write_found.new.self f.undo.olds f.actions.actions f.moments.items c.self.invariant inner some
+    IsSound-kept f.writes c.write_found.new.self f.undo.olds f.undo.olds f.actions.actions f.moments.items c.self.invariant inner (omega arith) some

@@ -1,7 +1,6 @@
 use Rattle.std.proofs.Common.{◌/◌, false, refl}
 use Rattle.norec_engine.proofs.Common.{Answers, CommitCall as Commit, Committed, End, ReadOnly}
-use Rattle.norec_engine.proofs.IdleEngines.{idle_at}
-use Rattle.norec_engine.proofs.EitherTurns.{called_in, revocable_call}
+use Rattle.norec_engine.{proofs.IdleEngines.idle_at, proofs.EitherTurns.called_in, proofs.EitherTurns.revocable_call}
 use Rattle.norec_engine.proofs.engine.Engine.commit_reads.Goals as goal
 
 pub returns-clause-called : goal.returns-clause-called

@@ -1,5 +1,4 @@
-use Rattle.norec_world.proofs.{LeavesLessSoFar, call_left_at, waits_at, ◌≡◌, true, IsSome}
-use Rattle.norec_world.specs.Taken.{TakesSome}
+use Rattle.norec_world.{proofs.LeavesLessSoFar, proofs.call_left_at, proofs.waits_at, proofs.◌≡◌, proofs.true, proofs.IsSome, specs.Taken.TakesSome}
 use Rattle.norec_world.proofs.world.World.finish_call.Given as goal
 
 abbrev pub invariant-loop-goes_on : goal.invariant-loop-goes_on

@@ -1,5 +1,4 @@
-use Rattle.norec_world.proofs.{LeavesNoMore, run_left_at, whole_at, ◌≡◌, ◌≤◌, length}
-use Rattle.norec_world.specs.Taken.{TakesSome}
+use Rattle.norec_world.{proofs.LeavesNoMore, proofs.run_left_at, proofs.whole_at, proofs.◌≡◌, proofs.◌≤◌, proofs.length, specs.Taken.TakesSome}
 use Rattle.norec_world.proofs.world.World.run_out.Given as goal
 
 abbrev pub invariant-loop-alloc : goal.invariant-loop-alloc

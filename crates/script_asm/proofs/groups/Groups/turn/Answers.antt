@@ -1,7 +1,6 @@
 use Rattle.std.proofs.Common.{◌-◌, ap, ◌∙◌, arith, sym}
 use Rattle.script_asm.proofs.Common.{length-set, never_count, second_part}
-use Rattle.script_asm.proofs.NeverGroups.{same_never}
-use Rattle.script_asm.proofs.TurnedGroups.{turned}
+use Rattle.script_asm.{proofs.NeverGroups.same_never, proofs.TurnedGroups.turned}
 use Rattle.script_asm.proofs.groups.Groups.turn.Goals as goal
 
 pub invariant_of-self : goal.invariant_of-self

@@ -1,6 +1,5 @@
 use Rattle.std.proofs.Common.{◌≡◌, ◌<◌, All, drop, take}
-use Rattle.script_program.specs.Listing.{thread_of}
-use Rattle.script_program.specs.Schedules.{stray_of}
+use Rattle.script_program.{specs.Listing.thread_of, specs.Schedules.stray_of}
 use Rattle.script_program.proofs.schedule.Plan.stray.Given as goal
 
 abbrev pub invariant-loop-i : goal.invariant-loop-i

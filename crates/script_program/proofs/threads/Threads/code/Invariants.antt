@@ -1,6 +1,5 @@
 use Rattle.std.proofs.Common.{◌≡◌, ◌+◌, ◌++◌, ◌∷◌, [], take, drop}
-use Rattle.std.specs.Prelude.{slice_get}
-use Rattle.std.specs.List.{sum_by}
+use Rattle.std.{specs.Prelude.slice_get, specs.List.sum_by}
 use Rattle.script_program.specs.Listing.{Part, codes_of}
 use Rattle.script_program.proofs.threads.Threads.code.Given as goal
 

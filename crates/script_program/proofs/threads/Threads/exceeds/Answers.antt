@@ -1,6 +1,5 @@
 use Rattle.std.proofs.Common.{◌≡◌, ◌+◌, ◌-◌, ◌*◌, ltb, length, arith, ap, ◌∙◌, sym}
-use Rattle.script_program.specs.Sections.{Sections, instruction_total}
-use Rattle.script_program.proofs.Repeats.{expanded_total}
+use Rattle.script_program.{specs.Sections.Sections, specs.Sections.instruction_total, proofs.Repeats.expanded_total}
 use Rattle.script_program.proofs.threads.Threads.exceeds.Goals as goal
 
 pub returns : goal.returns

@@ -1,6 +1,5 @@
 use Rattle.std.proofs.Common.{ℕ, Result, Ok, Err, ◌≡◌, ◌+◌, ◌<◌, ◌≤◌, ◌++◌, List, length, take, drop, arith, refl, ap, sym, ◌∙◌, subst}
-use Rattle.std.specs.Prelude.{OnErr}
-use Rattle.std.specs.List.{repeat}
+use Rattle.std.{specs.Prelude.OnErr, specs.List.repeat}
 use Rattle.script_program.specs.declared.instruction.Instruction.{Instruction}
 use Rattle.script_program.specs.Sections.{Sections, instruction_total, expanded}
 use Rattle.script_program.proofs.Repeats.{room, few_more, longer, more_again, cut_back, part_is, within_them}

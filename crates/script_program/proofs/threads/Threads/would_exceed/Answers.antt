@@ -1,6 +1,5 @@
 use Rattle.std.proofs.Common.{◌≡◌, ◌+◌, ◌-◌, ◌*◌, ltb, arith, ap, ◌∙◌}
-use Rattle.script_program.specs.Sections.{instruction_total}
-use Rattle.script_program.proofs.Repeats.{too_many}
+use Rattle.script_program.{specs.Sections.instruction_total, proofs.Repeats.too_many}
 use Rattle.script_program.proofs.threads.Threads.would_exceed.Goals as goal
 
 pub returns : goal.returns

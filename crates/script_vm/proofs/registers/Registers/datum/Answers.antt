@@ -1,8 +1,7 @@
 use Rattle.std.proofs.Common.{◌≤◌, length, take, ap, sym, ◌∙◌, arith}
 use Rattle.script_vm.proofs.Common.{bytes_at, datum, low}
-use Rattle.itm_types.proofs.SameDatum.{same_datum}
+use Rattle.itm_types.{proofs.SameDatum.same_datum, specs.Access.size_of}
 use Rattle.script_vm.proofs.LowBytes.{low_is}
-use Rattle.itm_types.specs.Access.{size_of}
 use Rattle.script_vm.proofs.registers.Registers.datum.Goals as goal
 
 pub returns-in-U8 : goal.returns-in-U8

@@ -1,7 +1,6 @@
 use Rattle.std.proofs.Common.{◌≡◌, List, ℕ, drop, length, subst, arith, sym, ◌∙◌, ap}
 use Rattle.shared_words.proofs.Common.{Good, View, view_of}
-use Rattle.shared_words.proofs.ClockFirst.{clock_with_words}
-use Rattle.shared_words.proofs.PassViews.{ends_of, held_of}
+use Rattle.shared_words.{proofs.ClockFirst.clock_with_words, proofs.PassViews.ends_of, proofs.PassViews.held_of}
 use Rattle.shared_words.proofs.words.Words.close_in_place.Goals as goal
 
 pub returns-clause-held : goal.returns-clause-held

@@ -1,8 +1,6 @@
 use Rattle.std.proofs.Common.{◌≡◌, ◌≤◌, ℕ, arith, sym, ap, ◌∙◌, subst}
 use Rattle.shared_words.proofs.Common.{Held, Joined, StartsWith, View, both, cells_of, times, view_of}
-use Rattle.shared_words.proofs.PassViews.{joined}
-use Rattle.shared_words.proofs.ViewsFit.{over_join}
-use Rattle.shared_words.proofs.TableSteps.{joins, allows_settle}
+use Rattle.shared_words.{proofs.PassViews.joined, proofs.ViewsFit.over_join, proofs.TableSteps.joins, proofs.TableSteps.allows_settle}
 use Rattle.shared_words.proofs.words.Words.join.Goals as goal
 
 pub join_seat-requires : goal.join_seat-requires

@@ -1,7 +1,6 @@
 use Rattle.std.proofs.Common.{◌≡◌, ◌∷◌, ◌+◌, [], List, ℕ, length, drop, get_or, rules, ◌<◌, ◌^◌, sym, ap, ◌∙◌, subst, arith}
 use Rattle.shared_words.proofs.Common.{Good, Held, IsOver, opening}
-use Rattle.shared_words.proofs.PassViews.{opens}
-use Rattle.shared_words.proofs.ClockFirst.{clock_first, words_behind, rest_fits}
+use Rattle.shared_words.{proofs.PassViews.opens, proofs.ClockFirst.clock_first, proofs.ClockFirst.words_behind, proofs.ClockFirst.rest_fits}
 use Rattle.shared_words.proofs.words.Words.of_cells.Goals as goal
 
 pub deal-shared-requires-clause-good : goal.deal-shared-requires-clause-good

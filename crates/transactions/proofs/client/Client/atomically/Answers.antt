@@ -1,5 +1,4 @@
-use Rattle.transactions.proofs.Came.{plain_of}
-use Rattle.transactions.proofs.Chains.{came_of}
+use Rattle.transactions.{proofs.Came.plain_of, proofs.Chains.came_of}
 use Rattle.transactions.proofs.client.Client.atomically.Goals as goal
 
 pub returns-clause-ran : goal.returns-clause-ran

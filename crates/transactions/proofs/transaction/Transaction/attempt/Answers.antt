@@ -1,7 +1,6 @@
 use Rattle.std.proofs.Common.{◌∙◌, inl, inr, ap, Result, Ok, Err, refl, subst, sym, arith}
 use Rattle.transactions.proofs.Common.{CalledAtMut, Cancelled, Engine, Pass, Stopped, Went, mine_then, or_true, stop_told, view_of, went_on}
-use Rattle.transactions.proofs.Looks.{or_not, stopped_looks}
-use Rattle.transactions.proofs.Tries.{cancelled_mine, stopped_mine}
+use Rattle.transactions.{proofs.Looks.or_not, proofs.Looks.stopped_looks, proofs.Tries.cancelled_mine, proofs.Tries.stopped_mine}
 use Rattle.transactions.proofs.transaction.Transaction.attempt.Goals as goal
 
 pub returns-in-Ok-body-clause-tells : goal.returns-in-Ok-body-clause-tells

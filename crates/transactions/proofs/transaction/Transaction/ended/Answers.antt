@@ -1,7 +1,6 @@
 use Rattle.std.proofs.Common.{◌≡◌, ◌∙◌, inl, ap, false, refl, subst, sym}
 use Rattle.transactions.proofs.Common.{Answer, Commit, Core, IsAnswered, LeftBy, Lent, Owns, Pass, Standing, Stands, Went, Words, commit_told, mine_of, start_of, view_of}
-use Rattle.transactions.proofs.Tries.{again_told, gave_up}
-use Rattle.transactions.proofs.Modes.{keeps_commit, mine_stays, stays_revocable}
+use Rattle.transactions.{proofs.Tries.again_told, proofs.Tries.gave_up, proofs.Modes.keeps_commit, proofs.Modes.mine_stays, proofs.Modes.stays_revocable}
 use Rattle.transactions.proofs.transaction.Transaction.ended.Goals as goal
 
 still : (words : Words) (t : Standing) (a : Answer) (p : Pass) (e : Core) → IsAnswered words (start_of t Commit false) a p e → t.engine.irrevocable ≡ false → e.irrevocable ≡ false

@@ -1,7 +1,6 @@
 use Rattle.std.proofs.Common.{◌∙◌, Some, ap, false, rules, subst, sym}
 use Rattle.transactions.proofs.Common.{HasValue, IsAnswered, R, Read, start_of, told_of, view_of}
-use Rattle.transactions.proofs.WidthReads.{read_value}
-use Rattle.transactions.proofs.Within.{lent_within}
+use Rattle.transactions.{proofs.WidthReads.read_value, proofs.Within.lent_within}
 use Rattle.transactions.proofs.transaction.Transaction.read.Goals as goal
 
 pub value_in-requires : goal.value_in-requires

@@ -1,6 +1,5 @@
 use Rattle.transactions.proofs.Common.{R, Read, U8, answer_to_read}
-use Rattle.transactions.proofs.Kept.{kept_by_read}
-use Rattle.transactions.proofs.Within.{lent_within}
+use Rattle.transactions.{proofs.Kept.kept_by_read, proofs.Within.lent_within}
 use Rattle.transactions.proofs.transaction.Transaction.read_u64.Goals as goal
 
 pub returns-clause-within : goal.returns-clause-within

@@ -1,6 +1,5 @@
 use Rattle.transactions.proofs.Common.{W, Write, answer_to_write, number}
-use Rattle.transactions.proofs.Kept.{kept_by_write}
-use Rattle.transactions.proofs.Within.{lent_within}
+use Rattle.transactions.{proofs.Kept.kept_by_write, proofs.Within.lent_within}
 use Rattle.transactions.proofs.transaction.Transaction.write_u64.Goals as goal
 
 pub returns-clause-within : goal.returns-clause-within

@@ -1,7 +1,6 @@
 use Rattle.std.proofs.Common.{◌≢◌, false, arith, subst}
 use Rattle.tx_map.proofs.Common.{Does, HasFound}
-use Rattle.tx_map.proofs.Finds.{got_free, got_none, got_some}
-use Rattle.tx_map.proofs.Parts.{does_so}
+use Rattle.tx_map.{proofs.Finds.got_free, proofs.Finds.got_none, proofs.Finds.got_some, proofs.Parts.does_so}
 use Rattle.tx_map.proofs.table.Table.get.Goals as goal
 
 pub returns-in-Some-clause-got : goal.returns-in-Some-clause-got

@@ -1,7 +1,6 @@
 use Rattle.std.proofs.Common.{◌≡◌, ◌≢◌, ◌+◌, ◌*◌, ◌^◌, false, true, arith, subst}
 use Rattle.tx_map.proofs.Common.{Does, HasFound, to_le_bytes, w64, with_slice}
-use Rattle.tx_map.proofs.Finds.{added, put_full, again}
-use Rattle.tx_map.proofs.Parts.{does_so, does_then, does_write}
+use Rattle.tx_map.{proofs.Finds.added, proofs.Finds.put_full, proofs.Finds.again, proofs.Parts.does_so, proofs.Parts.does_then, proofs.Parts.does_write}
 use Rattle.tx_map.proofs.table.Table.put.Goals as goal
 
 pub returns-in_default-clause-put : goal.returns-in_default-clause-put

@@ -1,8 +1,6 @@
 use Rattle.std.proofs.Common.{Bool, ap, sym, subst}
 use Rattle.call_rules.specs.CallResults.{Returns}
-use Rattle.worker_rules.specs.Worker.{Worker}
-use Rattle.worker_rules.specs.Workers.{again_for}
-use Rattle.worker_rules.proofs.Laws.Rooms.{not_told}
+use Rattle.worker_rules.{specs.Worker.Worker, specs.Workers.again_for, proofs.Laws.Rooms.not_told}
 use Rattle.tx_worker.proofs.worker.Worker.ask.Goals as goal
 
 pub returns-in_default : goal.returns-in_default

@@ -1,7 +1,6 @@
 use Rattle.std.proofs.Common.{false, sym, subst}
 use Rattle.tx_runs.specs.declared.ending.End.{End}
-use Rattle.worker_rules.specs.Workers.{IsStopped}
-use Rattle.worker_rules.proofs.Laws.Asks.{answered, hungry, hungry_still}
+use Rattle.worker_rules.{specs.Workers.IsStopped, proofs.Laws.Asks.answered, proofs.Laws.Asks.hungry, proofs.Laws.Asks.hungry_still}
 use Rattle.tx_worker.proofs.worker.Worker.make.Goals as goal
 
 pub starve-requires : goal.starve-requires

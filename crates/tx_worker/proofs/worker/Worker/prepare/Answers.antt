@@ -1,8 +1,6 @@
 use Rattle.std.proofs.Common.{OnErr, sym, subst}
 use Rattle.tx_runs.specs.declared.player_run.Current.{Current}
-use Rattle.worker_rules.specs.Worker.{Worker}
-use Rattle.worker_rules.specs.Workers.{IsWorking, LacksFor}
-use Rattle.worker_rules.proofs.Laws.Shortages.{unprepared}
+use Rattle.worker_rules.{specs.Worker.Worker, specs.Workers.IsWorking, specs.Workers.LacksFor, proofs.Laws.Shortages.unprepared}
 use Rattle.tx_worker.proofs.worker.Worker.prepare.Goals as goal
 
 pub returns-in-Within-clause-unready : goal.returns-in-Within-clause-unready

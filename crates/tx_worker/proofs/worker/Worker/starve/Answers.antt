@@ -1,10 +1,8 @@
 use Rattle.std.proofs.Common.{◌≡◌, ◌/◌, ◌++◌, List, refl, sym, subst, ◌∙◌}
 use Rattle.itm_types.specs.declared.call.Ran.{Ran}
 use Rattle.tx_attempts.specs.declared.attempt.Outcome.TheVariants as outcomes
-use Rattle.tx_runs.specs.PlayerRuns.{MayStop, stage_of}
-use Rattle.tx_runs.specs.Tallies.{Stand, over_as, stand_of}
-use Rattle.norec_core.specs.declared.answer.Undone.TheVariants.{Held}
-use Rattle.norec_core.specs.Undoing.{undone_of}
+use Rattle.tx_runs.{specs.PlayerRuns.MayStop, specs.PlayerRuns.stage_of, specs.Tallies.Stand, specs.Tallies.over_as, specs.Tallies.stand_of}
+use Rattle.norec_core.{specs.declared.answer.Undone.TheVariants.Held, specs.Undoing.undone_of}
 use Rattle.worker_rules.specs.Worker.{Worker}
 use Rattle.worker_rules.specs.Workers.{IsHungry}
 use Rattle.worker_rules.proofs.Laws.Starves.{holds_on, may_stop, may_tell, starves, told_by}

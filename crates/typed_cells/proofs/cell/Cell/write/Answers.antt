@@ -1,6 +1,5 @@
 use Rattle.std.proofs.Common.{ℕ, subst}
-use Rattle.itm_types.specs.declared.access.WriteHint.TheVariants.{W}
-use Rattle.itm_types.specs.declared.call.Call.TheVariants.{Write}
+use Rattle.itm_types.{specs.declared.access.WriteHint.TheVariants.W, specs.declared.call.Call.TheVariants.Write}
 use Rattle.call_rules.specs.CallResults.{Tells}
 use Rattle.itm_runtime.specs.Stops.{answer_to_write, number}
 use Rattle.typed_cells.proofs.cell.Cell.write.Goals as goal

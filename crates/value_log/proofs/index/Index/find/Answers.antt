@@ -1,6 +1,6 @@
 use Rattle.std.proofs.Common.{◌≡◌, ◌<◌, ℕ, Some, get_or, length, sym, ap, subst, arith, ◌∙◌}
 use Rattle.value_log.proofs.Common.{IsLast, LogRow, slice_get-get_or, value_of}
-use Rattle.value_log.proofs.IndexedRows.{got_or, none_at_end, none_past_chain, stands_before, still_before, value_at}
+use Rattle.value_log.proofs.IndexedRows.{none_at_end, none_past_chain, stands_before, still_before, value_at}
 use Rattle.value_log.proofs.index.Index.find.Goals as goal
 
 -- what is read where no row stands
@@ -18,7 +18,7 @@ returns-then-row-word c =
     let rows = c.args.rows.now in
     let place = c.loop-place.place in
     let row = get_or rows place nothing in
-    let here = got_or rows place nothing (omega (arith, c.loop-place-test.true, c.loop-place.invariant.0)) in
+    let here = slice_get-get_or rows place nothing (omega (arith, c.loop-place-test.true, c.loop-place.invariant.0)) in
     sym (subst (λ (n : ℕ). value_of n rows ≡ Some row.value) c.if-row-word.true (value_at rows place row c.requires.single here))
 
 pub returns-then-slot : goal.returns-then-slot
@@ -28,7 +28,7 @@ returns-then-slot c =
     let end = c.loop-place.end in
     let place = c.loop-place.place in
     let own = c.slot-slot.ensures.slot in
-    let here = got_or rows place nothing (omega (arith, c.loop-place-test.true, c.loop-place.invariant.0)) in
+    let here = slice_get-get_or rows place nothing (omega (arith, c.loop-place-test.true, c.loop-place.invariant.0)) in
     let is = subst (λ (n : ℕ). IsLast slots rows n end place) own c.loop-place.invariant.1 in
     sym (none_past_chain slots rows c.args.word end place is c.loop-place.invariant.2 (get_or rows place nothing) here
     (λ same. c.if-slot.true (c.slot.ensures.slot ∙ (same ∙ sym own))))
@@ -43,7 +43,7 @@ loop-place-preserved c =
     let next = c.index-in-loop-place.result.now in
     let row = get_or rows place nothing in
     let within : place < length rows = omega (arith, c.loop-place-test.true, c.loop-place.invariant.0) in
-    let here = got_or rows place nothing within in
+    let here = slice_get-get_or rows place nothing within in
     let there = slice_get-get_or before place next (omega (arith, within, c.requires.index.within)) ∙ ap Some (sym c.index-in-loop-place.ensures) in
     let own = c.slot-slot.ensures.slot in
     let is = subst (λ (n : ℕ). IsLast slots rows n end place) own c.loop-place.invariant.1 in (

@@ -1,6 +1,7 @@
-use Rattle.std.proofs.Common.{◌≡◌, List, ℕ, None, ◌<◌, ◌≤◌, length, sym, ap, subst, arith}
+use Rattle.std.proofs.Common.{◌≡◌, List, [], ◌∷◌, ℕ, None, ◌<◌, ◌≤◌, length, sym, ap, subst, arith}
 use Rattle.value_log.proofs.Common.{AllBelow, AreSingle, IsRight, Log, LogRow, single_push, value_of}
-use Rattle.value_log.proofs.IndexedRows.{below_push, few_rows}
+use Rattle.value_log.proofs.IndexedRows.{few_rows}
+use Rattle.itm_types.proofs.Elements.{all_append}
 use Rattle.value_log.proofs.log.ValueLog.add.Goals as goal
 
 pub note-requires-clause-few : goal.note-requires-clause-few
@@ -23,7 +24,7 @@ invariant_of-self c =
     let first = subst (λ (rs : List LogRow). value_of row.word rs ≡ None) (sym (ap (λ (l : Log). l.rows) c.self.view_is)) c.requires.first in
     record {
       single = subst AreSingle (sym added) (single_push rows row kept.single first);
-      below = subst AllBelow (sym added) (below_push rows row kept.below c.requires.word);
+      below = subst AllBelow (sym added) (all_append _ rows (row ∷ []) kept.below (c.requires.word, tt));
       index = subst (IsRight c.note.new.self.last.items c.note.new.self.before.items) (sym added) (c.note.ensures.right rows (sym c.len.ensures.value) kept.index row.value);
       room = λ made. subst (λ (n : ℕ). c.push_reserved.new.self.capacity ≤ n) (sym c.note.ensures.before)
           (subst (λ (n : ℕ). n ≤ length c.self.inside.index.before.items) (sym c.push_reserved.ensures.capacity) (kept.room (subst (λ (n : ℕ). 0 < n) c.note.ensures.last made)));

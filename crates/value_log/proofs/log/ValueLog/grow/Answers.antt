@@ -1,9 +1,7 @@
 use Rattle.std.proofs.Common.{◌+◌, ◌<◌, ◌≤◌, ◌^◌, ℕ, List, Option, MatchOption, length, sym, subst, arith}
 use Rattle.value_log.proofs.Common.{HavePlaces, IsRight, Log, LogRow}
-use Rattle.std.specs.Int.{IsNextPowerOfTwo}
-use Rattle.std.specs.Option.{SomeIff}
-use Rattle.value_log.proofs.FilledRows.{power_in_eights}
-use Rattle.value_log.proofs.IndexedRows.{few_rows}
+use Rattle.std.{specs.Int.IsNextPowerOfTwo, specs.Option.SomeIff}
+use Rattle.value_log.{proofs.FilledRows.power_in_eights, proofs.IndexedRows.few_rows}
 use Rattle.value_log.proofs.log.ValueLog.grow.Goals as goal
 
 pub reserve-requires-clause-places : goal.reserve-requires-clause-places

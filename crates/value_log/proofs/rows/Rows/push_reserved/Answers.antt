@@ -1,6 +1,6 @@
 use Rattle.std.proofs.Common.{◌<◌, ◌+◌, ◌++◌, [], ◌∷◌, ℕ, List, add-one, length, length-take-le, slice_set, take, sym, ap, subst, arith, ◌∙◌}
 use Rattle.value_log.proofs.Common.{Filled, IsFilled, LogRow, length-set}
-use Rattle.value_log.proofs.FilledRows.{take_set}
+use Rattle.std.proofs.Math.Seq.{take-suc-set}
 use Rattle.value_log.proofs.rows.Rows.push_reserved.Goals as goal
 
 free : (places : List LogRow) (len capacity : ℕ) → IsFilled places len capacity → length (take len places) < capacity → len < capacity
@@ -25,5 +25,5 @@ returns-clause-items c =
     let len = c.self.inside.len in
     let below = free places len c.self.inside.capacity c.self.invariant (subst (λ (f : Filled). length f.items < f.capacity) (sym c.self.view_is) c.requires) in
     ap (take (len + 1)) c.set.ensures
-    ∙ (ap (λ (n : ℕ). take n (slice_set places len c.args.row)) (add-one len) ∙ (take_set places len c.args.row (omega (arith, below, c.self.invariant.all))
+    ∙ (ap (λ (n : ℕ). take n (slice_set places len c.args.row)) (add-one len) ∙ (take-suc-set places len c.args.row (omega (arith, below, c.self.invariant.all))
     ∙ ap (λ (f : Filled). f.items ++ c.args.row ∷ []) c.self.view_is))

@@ -1,11 +1,11 @@
 use Rattle.std.proofs.Common.{◌≤◌, length, length-take-le, take, sym, ap, subst, arith, ◌∙◌}
 use Rattle.value_log.proofs.Common.{Filled, take_all}
-use Rattle.value_log.proofs.FilledRows.{take_twice}
+use Rattle.std.proofs.lemmas.List.{take-take}
 use Rattle.value_log.proofs.rows.Rows.truncate.Goals as goal
 
 pub returns-then-len-self-clause-items : goal.returns-then-len-self-clause-items
 returns-then-len-self-clause-items c =
-    sym (take_twice c.args.len c.self.inside.len c.self.inside.places.items (omega (arith, c.if-len-self.true)))
+    sym (take-take c.args.len c.self.inside.len c.self.inside.places.items (omega (arith, c.if-len-self.true)))
     ∙ ap (λ (f : Filled). take c.args.len f.items) c.self.view_is
 
 pub returns-else-len-self-clause-items : goal.returns-else-len-self-clause-items
