@@ -320,8 +320,9 @@ impl Frames {
         Ok(())
     }
 
-    /// The same, where that takes no memory and no look at the write set's index: the last transaction wrote this word next, or few
-    /// words are written, this one had no row as the innermost block began, and a row that joins has room. Else nothing is done.
+    /// The same, where that takes no memory and no look at the write set's index, else nothing. It may where the last transaction
+    /// wrote this word next, or few words are written, this one had no row as the innermost block began, and a row that joins has
+    /// room.
     #[inline(always)]
     pub fn write_next(&mut self, word: u32, mask: u64, value: u64) -> bool
         requires { 0 < length self.old.blocks }
@@ -331,8 +332,8 @@ impl Frames {
         self.writes.write_next(word, mask, value)
     }
 
-    /// The same, where more words than few are written and the index has this one, it had no row as the innermost block began, and
-    /// a row that joins has room. Else nothing is done.
+    /// The same, where that takes no memory, else nothing. It may where more words than few are written, the index has this one, it
+    /// had no row as the innermost block began, and a row that joins has room.
     #[inline(always)]
     pub fn write_found(&mut self, word: u32, mask: u64, value: u64) -> bool
         requires { 0 < length self.old.blocks }

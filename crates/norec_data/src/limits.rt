@@ -1,7 +1,7 @@
 //! What of the limits an engine asks for again and again.
 
 /// What the transactions of one engine may use up.
-#[derive(Clone, Copy)]
+#[derive(Drop)]
 pub struct EngineLimits {
     /// How many validation rounds one call may start, and how many odd clocks a begin may find: 1 to 1,000.
     pub patience: u32,

@@ -7,8 +7,8 @@ use crate::keyed_rows::Rows;
 use crate::row::Row;
 use word_pieces::merge;
 
-/// Writes the masked bytes of a value to a word, where it was the last transaction's next one, or there are few rows and none of
-/// so many first ones is its own; a row that joins has room. Else nothing is done.
+/// Writes the masked bytes of a value to a word, or does nothing. It may write where the word was the last transaction's next one,
+/// or there are few rows and none of so many first ones is its own, and a row that joins has room.
 #[inline(always)]
 pub(crate) fn write_next(rows: &mut Rows, first: usize, word: u32, mask: u64, value: u64) -> bool
     ensures none { result ≡ false → rows.new.rows ≡ rows.old.rows }
