@@ -80,8 +80,7 @@ pub use Rattle.tx_runs.specs.Savepoints.{again_of, cut_back, savepoints_after}
 pub use Rattle.tx_runs.specs.Tallies.{begins_again, begun, closed, ending_as, outside, over_as, sent_back, Stage, Stand, stand_of, Taken, Tally, took_in, tried, with_call, within}
 pub use Rattle.tx_runs.specs.declared.ending.End.{End}
 pub use Rattle.tx_runs.specs.declared.ending.End.TheVariants.{Finished, GaveUp, NoMemory}
-pub use Rattle.tx_runs.specs.declared.player_run.Current.{Current}
-pub use Rattle.tx_runs.specs.declared.player_run.Current.TheVariants.{Begins, Outside, Within}
+pub use Rattle.tx_runs.specs.Currents.{Current, Begins, Outside, Within}
 pub use Rattle.tx_runs.specs.declared.player_run.PlayerRun.{PlayerRun}
 pub use Rattle.tx_runs.specs.declared.savepoint.Savepoint.{Savepoint}
 pub use Rattle.user_actions.specs.Actions.{Actions, total}

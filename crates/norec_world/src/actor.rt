@@ -11,30 +11,37 @@ ghost use Rattle.world_rules.specs.Records.{ReadsAt, told};
 ghost use Rattle.event_rules.specs.Moments.{HasStepped};
 ghost use Rattle.world_rules.specs.ActionRoom.{MayRun, MayRunOn, IsActing};
 ghost use Rattle.world_rules.specs.Sound.{IsSound, MayRecord, WritesDown};
-ghost use Rattle.tx_runs.specs.declared.player_run.Current.TheVariants.{Outside};
+ghost use Rattle.tx_runs.specs.Currents.{Outside};
 
 use crate::memory::Memory;
 use crate::work::settle;
-use itm_types::{Call, Reply, Step};
+use itm_types::Step;
 use norec_core::Answer;
 use norec_engine::Engine;
+use std::alloc::Global;
 use std::mem;
 use tx_attempts::Attempt;
 use tx_player::Player;
-use tx_runs::{Current, End, PlayerRun};
+use tx_runs::{End, PlayerRun};
 use world_rules::Status;
 
 /// A player with its engine.
 pub(crate) type Actor<P> = world_rules::Actor<P, Engine>;
 
 /// An actor that has made no call.
-pub(crate) fn fresh<P: Player>(thread: u8, retries: u32, player: P, engine: Engine) -> Actor<P>
+pub(crate) fn fresh<P: Player>(
+    alloc: Global,
+    thread: u8,
+    retries: u32,
+    player: P,
+    engine: Engine,
+) -> Actor<P>
     ensures run { result.run ≡ record { thread = thread; retries = retries; player = player; nth = 1; again = false; current = Outside } }
     ensures engine { result.engine ≡ engine }
     ensures status { result.status ≡ Status.Ready }
 {
     Actor {
-        run: PlayerRun::new(thread, retries, player),
+        run: PlayerRun::new(alloc, thread, retries, player),
         engine,
         status: Status::Ready,
     }
@@ -74,10 +81,7 @@ pub(crate) fn next_step<P: Player>(actor: &Actor<P>) -> Option<Step>
 pub(crate) fn attempt<P: Player>(actor: &Actor<P>) -> Option<&Attempt>
     ensures { MatchOption result (active_of actor.now ≡ None) (λ row. active_of actor.now ≡ Some row.now) }
 {
-    match &actor.run.current {
-        Current::Within(open) => Some(open.row()),
-        _ => None,
-    }
+    Some(actor.run.current.within()?.row())
 }
 
 /// How many calls of its open attempt have a reply.
@@ -151,9 +155,8 @@ fn end_call<P: Player>(actor: &mut Actor<P>, ended: &mut Vec<Attempt>, answer: &
     ensures recorded { InProgress actor.old.status
         (λ call. WritesDown P.Player (rows_in ended.old) (record actor.old { status = Status.Ready }) call (Answers answer.old) (rows_in ended.new) actor.new) }
 {
-    if let Status::Waits { call, .. } = mem::replace(&mut actor.status, Status::Ready) {
-        let answer = mem::replace(answer, Answer::Reply(Reply::Done));
-        settle(actor, ended, call, answer);
+    if let Status::Waits { mut call, .. } = mem::replace(&mut actor.status, Status::Ready) {
+        settle(actor, ended, &mut call, answer);
     }
 }
 
@@ -175,7 +178,7 @@ fn follow<P: Player>(actor: &mut Actor<P>, from: u64)
     if now == from {
         return;
     }
-    if let Current::Within(open) = &mut actor.run.current {
+    if let Some(open) = actor.run.current.within_mut() {
         open.move_to(now / 2);
     }
 }

@@ -69,7 +69,7 @@ fn start<P: Player>(
 {
     let arena = Arena::new(alloc, terms.arena as usize)?;
     let engine = Engine::new(alloc, memory.words(), arena, terms.limits)?;
-    let mut actor = fresh(thread, terms.limits.retries, player, engine);
+    let mut actor = fresh(alloc, thread, terms.limits.retries, player, engine);
     work(&mut actor, alloc, memory, ended);
     match ending(&actor) {
         Some(End::NoMemory) => Err(AllocError),

@@ -21,7 +21,7 @@ use norec_core::{Answer, Undone};
 use std::alloc::{AllocError, Global};
 use tx_attempts::{Attempt, Outcome};
 use tx_player::Player;
-use tx_runs::{Current, End, ahead_of};
+use tx_runs::{End, ahead_of};
 use world_rules::Status;
 
 /// Calls are made until one waits for a step or the actor has ended.
@@ -55,14 +55,14 @@ fn call_next<P: Player>(
     ensures falls { actor.new.status ≡ Status.Ready
         → Falls P.Player (in_transaction actor.old.engine) (in_transaction actor.new.engine) (restarts_left actor.old.engine) (restarts_left actor.new.engine) actor.old actor.new }
 {
-    let Some(call) = actor.run.player.next() else {
+    let Some(mut call) = actor.run.player.next() else {
         actor.status = Status::Ended(End::Finished);
         return;
     };
     let mut answer = Answer::Reply(Reply::Done);
-    match ask(actor, alloc, memory, ended, &call, &mut answer) {
+    match ask(actor, memory, ended, &call, &mut answer) {
         Ok(Some(step)) => actor.status = Status::Waits { call, step },
-        Ok(None) => settle(actor, ended, call, answer),
+        Ok(None) => settle(actor, ended, &mut call, &mut answer),
         Err(_) => starve(actor, ended),
     }
 }
@@ -71,7 +71,6 @@ fn call_next<P: Player>(
 /// none, the call is over, and `answer` tells how.
 fn ask<P: Player>(
     actor: &mut Actor<P>,
-    alloc: Global,
     memory: &Memory,
     ended: &mut Vec<Attempt>,
     call: &Call,
@@ -87,7 +86,7 @@ fn ask<P: Player>(
     ensures place { count_of actor.new ≤ (rows_in ended.new).room }
     ensures others { KeepsOthers actor.old (rows_in ended.old) actor.new (rows_in ended.new) }
 {
-    if let Current::Within(open) = &mut actor.run.current {
+    if let Some(open) = actor.run.current.within_mut() {
         prepare(open, &actor.engine, call)?;
         return actor.engine.call_into(call, answer);
     }
@@ -97,31 +96,33 @@ fn ask<P: Player>(
             let ahead = ahead_of(actor.engine.irrevocable_room(call));
             let arena = actor.engine.arena().bytes();
             let began = memory.clock() / 2;
-            let attempt = actor.run.attempt(alloc, began, *props, arena, ahead)?;
+            actor.run.begin(began, *props, arena, ahead)?;
             let next = actor
                 .engine
-                .begin_into(*props, *room, actor.run.again, answer)?;
-            actor.run.current = Current::Begins(attempt);
-            Ok(next)
+                .begin_into(*props, *room, actor.run.again, answer);
+            if next.is_err() {
+                actor.run.current.leave();
+            }
+            next
         }
         _ => actor.engine.call_into(call, answer),
     }
 }
 
-/// What comes of the call's answer. Its code stands where it is called: a call and its reply are large, and would be copied
-/// from one function to the next.
+/// What comes of the call's answer. A call and its reply are large, so they are moved once, from where they stand, and what is
+/// left there means nothing. Its code stands where it is called.
 #[inline(always)]
 pub(crate) fn settle<P: Player>(
     actor: &mut Actor<P>,
     ended: &mut Vec<Attempt>,
-    call: Call,
-    answer: Answer,
+    call: &mut Call,
+    answer: &mut Answer,
 )
-    requires answered { MayRecord P.Player actor.old call (Answers answer) }
-    requires acts { MayRun actor.old call answer }
+    requires answered { MayRecord P.Player actor.old call.old (Answers answer.old) }
+    requires acts { MayRun actor.old call.old answer.old }
     requires place { count_of actor.old ≤ (rows_in ended.old).room }
     ensures acts { IsActing actor.new }
-    ensures recorded { WritesDown P.Player (rows_in ended.old) actor.old call (Answers answer) (rows_in ended.new) actor.new }
+    ensures recorded { WritesDown P.Player (rows_in ended.old) actor.old call.old (Answers answer.old) (rows_in ended.new) actor.new }
 {
     let is_open = actor.engine.is_open();
     let at = actor.engine.snapshot() / 2;

@@ -58,7 +58,7 @@ impl<P: Player> World<P> {
     ghost use Rattle.world_rules.specs.Stages.{opens};
     ghost use Rattle.norec_world.specs.Listed.{left_of};
     ghost use Rattle.norec_world.specs.WorldBegins.{BeginsAs, MayPlay, MaySetUp};
-    ghost use Rattle.norec_world.specs.Taken.{TakesSome};
+    ghost use Rattle.norec_world.specs.Taken.{EndsLast, TakesSome};
     ghost use Rattle.world_rules.specs.Commits.{CommitsInOrder};
     ghost use Rattle.world_rules.specs.Headline.{AreOpaque};
     ghost use Rattle.world_rules.specs.Tied.{AreTied};
@@ -207,10 +207,12 @@ impl<P: Player> World<P> {
         taken
     }
 
-    /// Takes the events of the call in progress, and tells how many, up to 2^64 - 1.
-    fn finish_call(&mut self, alloc: Global, actor: u8) -> u64
+    /// Takes the events of the call in progress, and tells how many, up to 2^64 - 1. The last one alone may end an attempt.
+    #[inline(always)]
+    pub fn finish_call(&mut self, alloc: Global, actor: u8) -> u64
         requires { IsSome (waits_at self.old actor) }
         ensures took { TakesSome P.Player actor result self.old self.new }
+        ensures ends { EndsLast P.Player actor self.old self.new }
         ensures less { LeavesLess P.Player actor false self.old self.new }
     {
         // (what holds of every world: the clauses after a run of no events)

@@ -45,8 +45,8 @@ pub use Rattle.world_laws.proofs.Solos.Schedules.{led_alone, takes_led}
 pub use Rattle.world_laws.specs.Solo.{one_if, Solo, solo, without_room}
 pub use Rattle.world_laws.specs.Told.{told_of}
 pub use Rattle.world_rules.proofs.Events.EndedAttempts.{ended_within, event_grown, Grown}
-pub use Rattle.world_rules.proofs.Events.WorldEvents.{call_falls, call_left_at, goes_no_more, leaves_on, LeavesLessSoFar, LeavesNoMore, no_more_first, no_more_on, opening_both, opening_same, over_less, run_falls, run_left_at, takes_both, takes_one, told_event, waits_still, whole_at}
-pub use Rattle.world_rules.proofs.Events.Worlds.{odd_or_even, waiting_there}
+pub use Rattle.world_rules.proofs.Events.WorldEvents.{goes_no_more, LeavesNoMore, no_more_first, no_more_on, opening_both, opening_same, run_falls, run_left_at, takes_both, told_event, whole_at}
+pub use Rattle.world_rules.proofs.Events.Worlds.{odd_or_even}
 pub use Rattle.world_rules.specs.Commits.{CommitsInOrder}
 pub use Rattle.world_rules.specs.Headline.{AreOpaque}
 pub use Rattle.world_rules.specs.Tied.{AreTied}

@@ -5,7 +5,7 @@ pub mod EndingLines
 pub mod Items
 pub mod Plays
 pub mod SentTexts
-pub mod Loops
+pub mod CallEvents
 pub mod ScheduleItems
 pub mod FedRuns
 pub mod RoomlessTexts

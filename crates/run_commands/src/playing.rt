@@ -48,7 +48,7 @@ fn take_event<P: Player, W: Write>(
     Ok(goes_on)
 }
 
-/// The events of the thread's call in progress.
+/// The events of the thread's call in progress, and the lines of what the last of them ended: the others end no attempt.
 fn finish_call<P: Player, W: Write>(
     alloc: Global,
     world: &mut World<P>,
@@ -61,11 +61,13 @@ fn finish_call<P: Player, W: Write>(
         (ItemBegins P.Player (Out thread)) world.old world.new stream.old stream.new result }
     ensures less { OnOk result (LeavesLess P.Player thread false world.old world.new) }
 {
-    let mut goes_on = true;
-    while goes_on {
-        goes_on = take_event(alloc, world, thread, stream)?;
+    let first = world.ended();
+    let _taken = world.finish_call(alloc, thread);
+    // most calls end none
+    if world.ended() == first {
+        return Ok(());
     }
-    Ok(())
+    put_ended(world, stream, first)
 }
 
 /// Events of the thread until it has ended.

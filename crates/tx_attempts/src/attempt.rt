@@ -1,8 +1,12 @@
 //! What the tries of transactions did.
 
+ghost use Rattle.std.specs.Prelude.{◌≡◌};
+ghost use Rattle.tx_attempts.specs.declared.attempt.Outcome.TheVariants.{Unfinished};
+
 use crate::lists::{Bytes, Calls, RanActions};
 use crate::restarts::Restarts;
 use itm_types::{Call, Props, Reply};
+use std::alloc::Global;
 
 /// How an attempt stands.
 #[derive(Clone, Copy, Debug, PartialEq, Eq)]
@@ -63,4 +67,25 @@ pub struct Attempt {
     pub restarts: Restarts,
     /// The actions that have run, in order: undo actions of what was rolled back, and commit actions once it has committed.
     pub ran: RanActions,
+}
+
+impl Attempt {
+    /// An attempt that has not begun, in whose place one will. Takes no memory.
+    #[inline(always)]
+    pub fn blank(alloc: Global) -> Self
+        ensures { result.outcome ≡ Unfinished }
+    {
+        Attempt {
+            outcome: Outcome::Unfinished,
+            props: Props::default(),
+            thread: 0,
+            nth: 0,
+            began: 0,
+            at: 0,
+            arena: Bytes::new(Vec::new(alloc)),
+            calls: Calls::new(alloc),
+            restarts: Restarts::none(),
+            ran: RanActions::new(alloc),
+        }
+    }
 }

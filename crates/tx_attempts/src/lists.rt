@@ -1,6 +1,6 @@
 //! Lists that contracts compare by what stands in them.
 
-ghost use Rattle.std.specs.Prelude.{◌≡◌, ◌<◌, ◌≤◌, ◌+◌, ◌∷◌, [], ◌++◌, length, take, vec_len, vec_capacity, IfOk, OnErr, OnOk};
+ghost use Rattle.std.specs.Prelude.{◌≡◌, ◌<◌, ◌≤◌, ◌+◌, ◌∷◌, [], ◌++◌, length, take, vec_capacity, OnErr, OnOk};
 
 use crate::attempt::{Attempt, CallRecord};
 use itm_types::Ran;
@@ -82,16 +82,6 @@ impl Calls {
         Calls { items, room: 0 }
     }
 
-    /// No calls, with room for so many.
-    pub fn with_room(alloc: Global, room: usize) -> Result<Self, AllocError>
-        ensures none { IfOk result (λ calls. calls ≡ record { list = []; room = room }) }
-        ensures short { OnErr result (0 < room) }
-    {
-        let mut items = Vec::new(alloc);
-        items.reserve(room)?;
-        Ok(Calls { items, room })
-    }
-
     pub fn as_slice(&self) -> &[CallRecord]
         ensures { result.now ≡ self.now.list }
     {
@@ -103,6 +93,17 @@ impl Calls {
         ensures { result ≡ self.now.room }
     {
         self.room
+    }
+
+    /// No calls any more, and room for so many.
+    #[inline(always)]
+    pub fn start_anew(&mut self, room: usize) -> Result<(), AllocError>
+        ensures none { OnOk result (self.new ≡ record { list = []; room = room }) }
+        ensures short { OnErr result (0 < room) }
+    {
+        self.cut(0);
+        self.give_up_room();
+        self.reserve(room)
     }
 
     /// Makes room for so many more. What is promised already counts.

@@ -62,8 +62,8 @@ impl AgainRoom {
     }
 }
 
-/// Inner blocks that ran again, by the calls up to their begins. Nearly always there are none, so they are kept apart: an
-/// attempt is moved about, and has one word for them.
+/// Inner blocks that ran again, by the calls up to their begins. Nearly always there are none, so they are kept apart, and
+/// an attempt has one word for them.
 #[derive(Debug, Drop)]
 pub struct Restarts {
     items: Option<Box<Vec<Again>>>,

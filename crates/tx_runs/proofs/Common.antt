@@ -13,6 +13,5 @@ pub use Rattle.tx_runs.specs.PlayerRuns.{HaveJoined, MayGoBack, stage_of, tally_
 pub use Rattle.tx_runs.specs.Runs.{begins_at, IsBefore, LeadsTo, run_after}
 pub use Rattle.tx_runs.specs.Savepoints.{cut_back, savepoints_after}
 pub use Rattle.tx_runs.specs.Tallies.{begins, begins_again, closed, ending_as, entered, gone_back, outside, over_as, replied, sent_back, Stage, stage_at, stage_with, Stand, Taken, Tally, took_in, went_on, with_call, within}
-pub use Rattle.tx_runs.specs.declared.player_run.Current.{Current}
-pub use Rattle.tx_runs.specs.declared.player_run.Current.TheVariants.{Outside, Within}
+pub use Rattle.tx_runs.specs.Currents.{Current, Outside, Within}
 pub use Rattle.std.proofs.lemmas.Bool.{cases_Bool, cond-true}

@@ -4,6 +4,8 @@ pub mod Outcomes
 pub mod Runs
 pub mod Tallies
 pub mod OpenAttempts
+pub mod Currents
+pub mod Lending
 pub mod PlayerRuns
 pub mod OpenBegins
 pub mod OpenTries

@@ -5,8 +5,7 @@ use Rattle.itm_types.specs.declared.call.Call.{Call}
 use Rattle.itm_types.specs.declared.call.Ran.{Ran}
 use Rattle.itm_types.specs.declared.call.Reply.{Reply}
 use Rattle.tx_attempts.specs.declared.attempt.Attempt.{Attempt}
-use Rattle.tx_runs.specs.declared.player_run.Current.{Current}
-use Rattle.tx_runs.specs.declared.player_run.Current.TheVariants.{Outside, Begins, Within}
+use Rattle.tx_runs.specs.Currents.{Current, Outside, Begins, Within}
 use Rattle.tx_runs.specs.declared.player_run.PlayerRun.{PlayerRun}
 use Rattle.tx_runs.specs.OpenAttempts.{HasRoom, MayRenew, told_in}
 use Rattle.tx_runs.specs.Savepoints.{savepoints_after}

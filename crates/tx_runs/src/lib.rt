@@ -2,6 +2,7 @@
 //! transactions lead to, what becomes of its try, and how they end.
 #![tactic(auto)]
 
+mod current;
 mod ending;
 mod equality;
 mod open_attempt;
@@ -10,8 +11,9 @@ mod places;
 mod player_run;
 mod savepoint;
 
+pub use current::Current;
 pub use ending::End;
 pub use open_attempt::{OpenAttempt, told_of};
 pub use outcome::{ahead_of, outcome_of};
-pub use player_run::{Current, PlayerRun};
+pub use player_run::PlayerRun;
 pub use savepoint::Savepoint;

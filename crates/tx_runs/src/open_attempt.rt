@@ -5,23 +5,25 @@ ghost use Rattle.tx_attempts.specs.declared.attempt.Outcome.TheVariants.{Unfinis
 ghost use Rattle.tx_attempts.specs.Kept.{reserved};
 ghost use Rattle.itm_types.specs.Calls.{is_begin};
 ghost use Rattle.tx_attempts.specs.Restarts.{ran_on};
-ghost use Rattle.tx_runs.specs.Tallies.{Stand, ending_as, with_call};
-ghost use Rattle.tx_runs.specs.OpenAttempts.{BeganBy, HasPlacesFor, IsBacked, LacksPlaces, no_rooms, open_of, told_in};
+ghost use Rattle.tx_runs.specs.Tallies.{Stand, begun, ending_as, with_call};
+ghost use Rattle.tx_runs.specs.OpenAttempts.{BeganBy, HasPlacesFor, IsBacked, LacksPlaces, no_rooms, open_of, rooms_in, told_in};
 ghost use Rattle.tx_runs.specs.Savepoints.{cut_back, savepoints_after};
 
 use crate::places::{Places, takes_places};
 use crate::savepoint::Savepoint;
-use itm_types::{Call, Ran, Reply};
+use itm_types::{Call, Props, Ran, Reply};
 use std::alloc::{AllocError, Global};
 use std::marker::Model;
-use tx_attempts::{Attempt, CallRecord, Outcome, count_undone, undone_before};
+use std::mem;
+use tx_attempts::{
+    Attempt, Bytes, CallRecord, Outcome, RanActions, Restarts, count_undone, undone_before,
+};
 
 /// The attempt that is under way, with the room that is made ahead for its calls and actions.
 #[derive(Drop)]
 pub struct OpenAttempt {
     row: Attempt,
-    /// Nearly always it has no inner block and no action, so what serves those is kept apart: an attempt is moved about, and has
-    /// one word for it.
+    /// Nearly always it has no inner block and no action, so what serves those is kept apart.
     places: Option<Box<Places>>,
     alloc: Global,
 }
@@ -39,19 +41,42 @@ impl Model for OpenAttempt {
 }
 
 impl OpenAttempt {
-    /// This attempt, which has not ended, with room for so many inner blocks and as many actions.
-    #[inline(always)]
-    pub fn new(alloc: Global, row: Attempt, ahead: usize) -> Result<Self, AllocError>
-        requires { row.outcome ≡ Unfinished }
-        ensures row { IfOk result (λ o. o.row ≡ row) }
-        ensures points { IfOk result (λ o. o.points ≡ []) }
-        ensures room { IfOk result (λ o. (ahead ≤ o.ends) × (ahead ≤ o.cancels) × (ahead ≤ o.deep)) }
-    {
-        let mut places = None;
-        if ahead > 0 {
-            places = Some(Box::new(alloc, Places::with_room(alloc, ahead)?)?);
+    /// A place for attempts. Takes no memory.
+    pub(crate) fn blank(alloc: Global) -> Self {
+        OpenAttempt {
+            row: Attempt::blank(alloc),
+            places: None,
+            alloc,
         }
-        Ok(OpenAttempt { row, places, alloc })
+    }
+
+    /// A begin is to open this try of its block, with room for so many calls, as many inner blocks and as many actions.
+    #[inline(always)]
+    pub(crate) fn begin(
+        &mut self,
+        thread: u8,
+        nth: u32,
+        began: u64,
+        props: Props,
+        arena: &[u8],
+        ahead: usize,
+    ) -> Result<(), AllocError>
+        ensures row { OnOk result (self.new.row ≡ begun thread nth began props arena.now ahead) }
+        ensures points { OnOk result (self.new.points ≡ []) }
+        ensures room { OnOk result ((ahead ≤ self.new.ends) × (ahead ≤ self.new.cancels) × (ahead ≤ self.new.deep)) }
+    {
+        let alloc = self.alloc;
+        self.places = places_ahead(alloc, ahead)?;
+        self.row.arena = Bytes::new(arena.to_vec(alloc)?);
+        self.row.calls.start_anew(ahead)?;
+        self.row.restarts = Restarts::none();
+        self.row.ran = RanActions::new(alloc);
+        self.row.thread = thread;
+        self.row.nth = nth;
+        self.row.began = began;
+        self.row.at = 0;
+        self.row.props = props;
+        Ok(())
     }
 
     /// The attempt, as it stands.
@@ -163,19 +188,22 @@ impl OpenAttempt {
 
     /// The call has this reply.
     #[inline(always)]
-    pub(crate) fn add(&mut self, call: Call, reply: Reply)
+    pub(crate) fn add(&mut self, call: &mut Call, reply: &mut Reply)
         requires entry { 0 < self.old.row.calls.room }
-        requires place { is_begin call ≡ true → length self.old.points < self.old.deep }
-        ensures { self.new ≡ record self.old { row = with_call call reply self.old.row; points = savepoints_after self.old.points self.old.row (record { call = call; reply = reply }) } }
+        requires place { is_begin call.old ≡ true → length self.old.points < self.old.deep }
+        ensures { self.new ≡ record self.old { row = with_call call.old reply.old self.old.row; points = savepoints_after self.old.points self.old.row (record { call = call.old; reply = reply.old }) } }
     {
         if let Some(places) = &mut self.places {
             let point = Savepoint {
                 kept: self.row.calls.as_slice().len() + 1,
                 ran: self.row.ran.as_slice().len(),
             };
-            places.nest(point, &call, &reply);
+            places.nest(point, call, reply);
         }
-        self.row.calls.push(CallRecord { call, reply });
+        self.row.calls.push(CallRecord {
+            call: mem::replace(call, Call::Commit),
+            reply: mem::replace(reply, Reply::Done),
+        });
     }
 
     /// These actions have come to run in its transaction in all. It stays open. Nearly always none has run since.
@@ -217,27 +245,34 @@ impl OpenAttempt {
         }
     }
 
-    /// The attempt as it ends, at this position, where these actions have come to run in all.
+    /// The attempt as it ends, at this position, where these actions have come to run in all. Its place is blank then.
     #[inline(always)]
-    pub(crate) fn end(self, outcome: Outcome, at: u64, due: &[Ran]) -> Attempt
-        requires told { told_in self.row ≤ length due.now }
-        requires room { length due.now ≤ self.ends }
-        ensures { (is_open arena : _) → result ≡ ending_as outcome (record { is_open = is_open; at = at; ran = due.now; arena = arena }) self.row }
+    pub(crate) fn end(&mut self, outcome: Outcome, at: u64, due: &[Ran]) -> Attempt
+        requires told { told_in self.old.row ≤ length due.now }
+        requires room { length due.now ≤ self.old.ends }
+        ensures { (is_open arena : _) → result ≡ ending_as outcome (record { is_open = is_open; at = at; ran = due.now; arena = arena }) self.old.row }
     {
-        let OpenAttempt {
-            mut row,
-            places,
-            alloc: _,
-        } = self;
-        if let Some(mut places) = places {
-            let told = told_of(&row, due);
-            places.run_last(&mut row.ran, &due[told..]);
+        if let Some(mut places) = self.places.take() {
+            let told = told_of(&self.row, due);
+            places.run_last(&mut self.row.ran, &due[told..]);
         }
-        row.calls.give_up_room();
-        row.at = at;
-        row.outcome = outcome;
-        row
+        self.row.calls.give_up_room();
+        self.row.at = at;
+        self.row.outcome = outcome;
+        mem::replace(&mut self.row, Attempt::blank(self.alloc))
     }
+}
+
+/// Room for so many inner blocks and as many actions, where that is any.
+#[inline(always)]
+fn places_ahead(alloc: Global, ahead: usize) -> Result<Option<Box<Places>>, AllocError>
+    ensures points { IfOk result (λ places. (rooms_in places).points ≡ []) }
+    ensures room { IfOk result (λ places. (ahead ≤ (rooms_in places).ends) × (ahead ≤ (rooms_in places).cancels) × (ahead ≤ (rooms_in places).deep)) }
+{
+    if ahead == 0 {
+        return Ok(None);
+    }
+    Ok(Some(Box::new(alloc, Places::with_room(alloc, ahead)?)?))
 }
 
 /// How many of these actions, which have come to run in its transaction in all, the attempt tells: as run, or as undone in its

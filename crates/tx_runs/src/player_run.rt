@@ -1,40 +1,27 @@
 //! A player among the tries of its blocks.
 
-ghost use Rattle.std.specs.Prelude.{◌≡◌, ◌+◌, ◌<◌, ◌≤◌, ◌++◌, false, true, nat_lt, if◌then◌else◌, List, Option, None, Some, IfOk, length, vec_len, vec_capacity};
+ghost use Rattle.std.specs.Prelude.{◌≡◌, ◌+◌, ◌<◌, ◌≤◌, ◌++◌, false, true, nat_lt, if◌then◌else◌, List, Option, None, Some, OnOk, OnErr, length, vec_len, vec_capacity};
 ghost use Rattle.itm_types.specs.declared.limits.TheConstants.{MAX_RETRIES};
 ghost use Rattle.norec_core.specs.Restarts.{IsRestart};
 ghost use Rattle.norec_core.specs.declared.answer.Answer.TheVariants.{Restarted};
 ghost use Rattle.norec_core.specs.Restarts.{IsRestart};
 ghost use Rattle.tx_attempts.specs.Kept.{spent};
 ghost use Rattle.tx_runs.specs.declared.ending.End.TheVariants.{GaveUp};
-ghost use Rattle.tx_runs.specs.declared.player_run.Current.{Current};
-ghost use Rattle.tx_runs.specs.declared.player_run.Current.TheVariants.{Outside, Begins, Within};
+ghost use Rattle.tx_runs.specs.Currents.{Outside, Begins, Within, BeginsAttempt};
 ghost use Rattle.itm_types.specs.declared.call.Ran.{Ran};
 ghost use Rattle.tx_runs.specs.OpenAttempts.{Open};
 ghost use Rattle.tx_runs.specs.PlayerRuns.{current_with, stage_of, tally_of, HaveJoined, KeepsPlaces, MayGoBack, MayTakeIn, MayStop, MayTell};
 ghost use Rattle.itm_types.specs.Calls.{is_begin};
 ghost use Rattle.tx_runs.specs.Tallies.{Stand, begun, closed, entered, gone_back, over_as, replied};
 
+use crate::current::Current;
 use crate::ending::End;
-use crate::open_attempt::OpenAttempt;
 use crate::outcome::outcome_of;
 use itm_types::{Call, MAX_RETRIES, Props, Ran, Reply};
 use norec_core::Answer;
 use std::alloc::{AllocError, Global};
-use std::mem;
-use tx_attempts::{Attempt, Bytes, Calls, Outcome, RanActions, Restarts};
+use tx_attempts::{Attempt, Outcome};
 use tx_player::Player;
-
-/// Where a player's try stands.
-#[derive(Drop)]
-pub enum Current {
-    /// No block is open.
-    Outside,
-    /// The begin that is in progress is to open it.
-    Begins(OpenAttempt),
-    /// It is open.
-    Within(OpenAttempt),
-}
 
 /// A player among the tries of its blocks.
 #[derive(Drop)]
@@ -55,7 +42,7 @@ impl<P: Player> PlayerRun<P> {
     ghost use Rattle.tx_runs.specs.Tallies.{took_in};
 
     /// A player that has made no call.
-    pub fn new(thread: u8, retries: u32, player: P) -> Self
+    pub fn new(alloc: Global, thread: u8, retries: u32, player: P) -> Self
         ensures { result ≡ record { thread = thread; retries = retries; player = player; nth = 1; again = false; current = Outside } }
     {
         PlayerRun {
@@ -64,36 +51,25 @@ impl<P: Player> PlayerRun<P> {
             player,
             nth: 1,
             again: false,
-            current: Current::Outside,
+            current: Current::outside(alloc),
         }
     }
 
-    /// The attempt that an outermost begin is to open, with room for so many calls, as many inner blocks and as many actions.
+    /// An outermost begin is to open an attempt, with room for so many calls, as many inner blocks and as many actions.
     #[inline(always)]
-    pub fn attempt(
-        &self,
-        alloc: Global,
+    pub fn begin(
+        &mut self,
         began: u64,
         props: Props,
         arena: &[u8],
         ahead: usize,
-    ) -> Result<OpenAttempt, AllocError>
-        ensures row { IfOk result (λ o. o.row ≡ begun self.now.thread self.now.nth began props arena.now ahead) }
-        ensures room { IfOk result (λ o. (ahead ≤ o.ends) × (ahead ≤ o.cancels) × (ahead ≤ o.deep)) }
+    ) -> Result<(), AllocError>
+        ensures begins { OnOk result (BeginsAttempt (begun self.old.thread self.old.nth began props arena.now ahead) ahead self.new.current) }
+        ensures err { OnErr result (self.new.current ≡ Outside) }
+        ensures same { self.new ≡ record self.old { current = self.new.current } }
     {
-        let row = Attempt {
-            thread: self.thread,
-            nth: self.nth,
-            began,
-            at: 0,
-            props,
-            arena: Bytes::new(arena.to_vec(alloc)?),
-            calls: Calls::with_room(alloc, ahead)?,
-            restarts: Restarts::none(),
-            ran: RanActions::new(alloc),
-            outcome: Outcome::Unfinished,
-        };
-        OpenAttempt::new(alloc, row, ahead)
+        self.current
+            .begin(self.thread, self.nth, began, props, arena, ahead)
     }
 
     /// What comes of a call's answer, where the engine stands like this after it: whether a transaction is open, where it
@@ -102,45 +78,46 @@ impl<P: Player> PlayerRun<P> {
     pub fn take_in(
         &mut self,
         ended: &mut Vec<Attempt>,
-        call: Call,
-        answer: Answer,
+        call: &mut Call,
+        answer: &mut Answer,
         is_open: bool,
         at: u64,
         ran: &[Ran],
         arena: &[u8],
     ) -> Option<End>
         requires tries { (self.old.nth ≤ self.old.retries + 1) × (self.old.retries ≤ MAX_RETRIES) }
-        requires again { (clock word : _) → answer ≡ Restarted clock word → (0 < P.Player.depth self.old.player) × MayGoBack (record { is_open = is_open; at = at; ran = ran.now; arena = arena.now }) self.old.current }
-        requires room { (IsRestart answer → ⊥) → MayTakeIn call (record { is_open = is_open; at = at; ran = ran.now; arena = arena.now }) self.old.current }
+        requires again { (clock word : _) → answer.old ≡ Restarted clock word → (0 < P.Player.depth self.old.player) × MayGoBack (record { is_open = is_open; at = at; ran = ran.now; arena = arena.now }) self.old.current }
+        requires room { (IsRestart answer.old → ⊥) → MayTakeIn call.old (record { is_open = is_open; at = at; ran = ran.now; arena = arena.now }) self.old.current }
         requires place { MayTell self.old.current ended.old }
-        ensures taken { let taken = took_in P.Player self.old.retries (tally_of self.old) call answer (record { is_open = is_open; at = at; ran = ran.now; arena = arena.now }) in
+        ensures taken { let taken = took_in P.Player self.old.retries (tally_of self.old) call.old answer.old (record { is_open = is_open; at = at; ran = ran.now; arena = arena.now }) in
             (tally_of self.new ≡ taken.tally) × (ended.new.items ≡ ended.old.items ++ taken.over) × (result ≡ taken.end) }
         ensures same { (self.new.thread ≡ self.old.thread) × (self.new.retries ≡ self.old.retries) }
-        ensures joined { HaveJoined ended.old ended.new (length (took_in P.Player self.old.retries (tally_of self.old) call answer
+        ensures joined { HaveJoined ended.old ended.new (length (took_in P.Player self.old.retries (tally_of self.old) call.old answer.old
             (record { is_open = is_open; at = at; ran = ran.now; arena = arena.now })).over) }
         ensures places { KeepsPlaces ran.now self.old.current self.new.current }
     {
         match answer {
             Answer::Reply(reply) => {
-                self.player.answer(&reply);
+                self.player.answer(reply);
                 self.replied(ended, call, reply, is_open, at, ran, arena);
                 None
             }
             Answer::Committed { at: _, wrote } => {
+                let outcome = outcome_of(*wrote);
                 self.player.answer(&Reply::Done);
-                self.add(call, Reply::Done);
-                self.close(ended, outcome_of(wrote), at, ran);
+                self.add(call, &mut Reply::Done);
+                self.close(ended, outcome, at, ran);
                 None
             }
             Answer::Conflict { .. } => {
-                if let Current::Within(_) = self.current {
+                if self.current.within().is_some() {
                     self.player.restart();
                 }
                 self.stop(ended, Outcome::Conflict, at, ran);
                 self.retry()
             }
             Answer::Busy { .. } => {
-                self.current = Current::Outside;
+                self.current.leave();
                 self.retry()
             }
             Answer::Full { .. } => {
@@ -159,43 +136,41 @@ impl<P: Player> PlayerRun<P> {
     fn replied(
         &mut self,
         ended: &mut Vec<Attempt>,
-        call: Call,
-        reply: Reply,
+        call: &mut Call,
+        reply: &mut Reply,
         is_open: bool,
         at: u64,
         ran: &[Ran],
         arena: &[u8],
     )
-        requires room { MayTakeIn call (record { is_open = is_open; at = at; ran = ran.now; arena = arena.now }) self.old.current }
+        requires room { MayTakeIn call.old (record { is_open = is_open; at = at; ran = ran.now; arena = arena.now }) self.old.current }
         requires place { MayTell self.old.current ended.old }
-        ensures taken { let taken = replied (stage_of self.old.current) (tally_of self.old) call reply (record { is_open = is_open; at = at; ran = ran.now; arena = arena.now }) in
+        ensures taken { let taken = replied (stage_of self.old.current) (tally_of self.old) call.old reply.old (record { is_open = is_open; at = at; ran = ran.now; arena = arena.now }) in
             (tally_of self.new ≡ taken.tally) × (ended.new.items ≡ ended.old.items ++ taken.over) }
         ensures same { (self.new.thread ≡ self.old.thread) × (self.new.retries ≡ self.old.retries) }
-        ensures joined { HaveJoined ended.old ended.new (length (replied (stage_of self.old.current) (tally_of self.old) call reply
+        ensures joined { HaveJoined ended.old ended.new (length (replied (stage_of self.old.current) (tally_of self.old) call.old reply.old
             (record { is_open = is_open; at = at; ran = ran.now; arena = arena.now })).over) }
         ensures places { KeepsPlaces ran.now self.old.current self.new.current }
     {
-        match &mut self.current {
-            Current::Within(open) => {
-                open.add(call, reply);
-                if is_open {
-                    open.run(ran);
-                } else {
-                    self.close(ended, Outcome::Cancelled, at, ran);
-                }
+        if let Some(open) = self.current.within_mut() {
+            open.add(call, reply);
+            if is_open {
+                open.run(ran);
+            } else {
+                self.close(ended, Outcome::Cancelled, at, ran);
             }
-            Current::Begins(_) => self.begun(is_open, at),
-            Current::Outside => {}
+        } else if self.current.is_begun() {
+            self.begun(is_open, at);
         }
     }
 
     /// The call has this reply in the open attempt.
     #[inline(always)]
-    fn add(&mut self, call: Call, reply: Reply)
-        requires room { (o : Open) → self.old.current ≡ Within o → (0 < o.row.calls.room) × (is_begin call ≡ true → length o.points < o.deep) }
-        ensures { self.new ≡ record self.old { current = current_with call reply self.old.current } }
+    fn add(&mut self, call: &mut Call, reply: &mut Reply)
+        requires room { (o : Open) → self.old.current ≡ Within o → (0 < o.row.calls.room) × (is_begin call.old ≡ true → length o.points < o.deep) }
+        ensures { self.new ≡ record self.old { current = current_with call.old reply.old self.old.current } }
     {
-        if let Current::Within(open) = &mut self.current {
+        if let Some(open) = self.current.within_mut() {
             open.add(call, reply);
         }
     }
@@ -209,7 +184,7 @@ impl<P: Player> PlayerRun<P> {
         ensures same { (self.new.thread ≡ self.old.thread) × (self.new.retries ≡ self.old.retries) }
         ensures places { KeepsPlaces ran.now self.old.current self.new.current }
     {
-        if let Current::Within(open) = &mut self.current {
+        if let Some(open) = self.current.within_mut() {
             open.renew(arena, ran);
             self.player.restart_block();
         }
@@ -225,16 +200,11 @@ impl<P: Player> PlayerRun<P> {
         ensures places { (ran : List Ran) → KeepsPlaces ran self.old.current self.new.current }
     {
         if !is_open {
-            self.current = Current::Outside;
+            self.current.leave();
             return;
         }
-        if let Current::Begins(open) = mem::replace(&mut self.current, Current::Outside) {
-            self.current = Current::Within(open);
-        }
-        if let Current::Within(open) = &mut self.current {
-            open.enter(at);
-            self.again = true;
-        }
+        self.current.enter(at);
+        self.again = true;
     }
 
     /// The block has ended, and the next one is tried for the first time.
@@ -267,9 +237,10 @@ impl<P: Player> PlayerRun<P> {
         ensures len { (is_open arena : _) → vec_len ended.new ≡ vec_len ended.old + length (over_as outcome
             (record { is_open = is_open; at = at; ran = ran.now; arena = arena }) (stage_of self.old.current)) }
     {
-        if let Current::Within(open) = mem::replace(&mut self.current, Current::Outside) {
+        if let Some(open) = self.current.within_mut() {
             ended.push_reserved(open.end(outcome, at, ran));
         }
+        self.current.leave();
     }
 
     /// The block is tried again, where it may be.

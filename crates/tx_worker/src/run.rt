@@ -43,13 +43,13 @@ pub fn work<P: Player, G: Gate, A: ActionSink>(
     ensures { Works P.Player words.now thread player number retries G.answers result }
 {
     let mut worker = Worker {
-        run: PlayerRun::new(number, retries, player),
+        run: PlayerRun::new(alloc, number, retries, player),
         thread,
         ended: Vec::new(alloc),
         calls: 0,
     };
     loop {
-        if let Some(end) = worker.call_next(alloc, words, gate, sink) {
+        if let Some(end) = worker.call_next(words, gate, sink) {
             return worker.finish(end);
         }
     }

@@ -1,11 +1,11 @@
 //! One thread's player with its transactions.
 
-ghost use Rattle.std.specs.Prelude.{◌≡◌, ◌/◌, ◌<◌, ◌≤◌, Bool, false, Some, unwrap_or, IsOk, OnOk, OnErr, vec_len, vec_capacity};
+ghost use Rattle.std.specs.Prelude.{◌≡◌, ◌/◌, ◌<◌, Bool, false, Some, unwrap_or, IsOk, OnOk, OnErr, vec_len, vec_capacity};
 ghost use Rattle.norec_core.specs.Core.{irrevocable_room};
 ghost use Rattle.shared_words.specs.Passes.{Owns, commits_known, view_of};
 ghost use Rattle.shared_words.specs.InGlobal.{Words as WordsValue};
 ghost use Rattle.call_rules.specs.CallResults.{Returns};
-ghost use Rattle.tx_runs.specs.OpenAttempts.{Open};
+ghost use Rattle.tx_runs.specs.Currents.{BeginsAttempt, Outside};
 ghost use Rattle.tx_runs.specs.PlayerRuns.{MayStop, MayTell};
 ghost use Rattle.tx_runs.specs.Tallies.{begun, stand_of};
 ghost use Rattle.worker_rules.specs.Accounts.{account_of, told};
@@ -20,11 +20,11 @@ use itm_runtime::Thread;
 use itm_types::{Call, Props};
 use norec_core::{Answer, Undone};
 use shared_words::{Pass, Words};
-use std::alloc::{AllocError, Global};
+use std::alloc::AllocError;
 use std::marker::Model;
 use tx_attempts::{Attempt, Attempts, Outcome};
 use tx_player::Player;
-use tx_runs::{Current, End, PlayerRun, ahead_of, told_of};
+use tx_runs::{End, PlayerRun, ahead_of, told_of};
 
 /// A player with its thread.
 #[derive(Drop)]
@@ -52,7 +52,6 @@ impl<P: Player> Worker<P> {
     /// The player's next call, where the gate lets it through. Answers how the thread ended, if it did.
     pub(crate) fn call_next<G: Gate, A: ActionSink>(
         &mut self,
-        alloc: Global,
         words: &Words,
         gate: &G,
         sink: &A,
@@ -60,7 +59,7 @@ impl<P: Player> Worker<P> {
         requires { (c : Course P) × (b : Bounds) × IsWorking P.Player words.now c b self.old }
         ensures { GoesOnOrStopsAt P.Player words.now G.answers self.old result self.new }
     {
-        let Some(call) = self.run.player.next() else {
+        let Some(mut call) = self.run.player.next() else {
             return Some(End::Finished);
         };
         let number = self.calls;
@@ -70,7 +69,7 @@ impl<P: Player> Worker<P> {
                 return Some(End::GaveUp);
             }
         }
-        let end = self.make(alloc, words, sink, call);
+        let end = self.make(words, sink, &mut call);
         if asked {
             gate.done(self.run.thread, number);
         }
@@ -79,51 +78,47 @@ impl<P: Player> Worker<P> {
     }
 
     /// Makes the call, once there is room for what comes of it.
-    fn make<A: ActionSink>(
-        &mut self,
-        alloc: Global,
-        words: &Words,
-        sink: &A,
-        call: Call,
-    ) -> Option<End>
+    fn make<A: ActionSink>(&mut self, words: &Words, sink: &A, call: &mut Call) -> Option<End>
         requires works { (c : Course P) × (b : Bounds) × IsWorking P.Player words.now c b self.old }
-        requires asks { P.next_call self.old.run.player ≡ Some call }
+        requires asks { P.next_call self.old.run.player ≡ Some call.old }
         ensures { (shuts : Bool) → GoesOnOrStops P.Player words.now shuts self.old result self.new }
     {
-        let Ok(()) = self.prepare(alloc, &call) else {
+        let Ok(()) = self.prepare(call) else {
             return Some(self.starve(sink));
         };
-        match self.ask(words, &call) {
-            Ok(answer) => self.take_in(sink, call, answer),
+        match self.ask(words, call) {
+            Ok(mut answer) => self.take_in(sink, call, &mut answer),
             Err(_) => Some(self.starve(sink)),
         }
     }
 
     /// Room for what comes of the call: an outermost begin is to open an attempt.
-    fn prepare(&mut self, alloc: Global, call: &Call) -> Result<(), AllocError>
+    fn prepare(&mut self, call: &Call) -> Result<(), AllocError>
         requires works { (words : WordsValue) × (c : Course P) × (b : Bounds) × IsWorking P.Player words c b self.old }
         ensures same { self.new ≡ record self.old { run = record self.old.run { current = self.new.run.current }; ended = self.new.ended } }
         ensures ready { OnOk result ((words : WordsValue) → IsPrepared words P.Player self.old call.now self.new) }
         ensures unready { OnErr result (IsUnprepared self.old call.now self.new) }
         ensures short { OnErr result (LacksFor self.old.thread.engine call.now self.old.run.current) }
     {
-        match &mut self.run.current {
-            Current::Within(open) => prepare(open, &self.thread, call),
-            Current::Begins(_) => Ok(()),
-            Current::Outside => match call {
-                Call::Begin { props, .. } => self.prepare_begin(alloc, call, *props),
-                _ => Ok(()),
-            },
+        if let Some(open) = self.run.current.within_mut() {
+            return prepare(open, &self.thread, call);
+        }
+        if self.run.current.is_begun() {
+            return Ok(());
+        }
+        match call {
+            Call::Begin { props, .. } => self.prepare_begin(call, *props),
+            _ => Ok(()),
         }
     }
 
     /// The attempt that an outermost begin is to open. It begins with the commits that the thread knows of.
-    fn prepare_begin(&mut self, alloc: Global, call: &Call, props: Props) -> Result<(), AllocError>
+    fn prepare_begin(&mut self, call: &Call, props: Props) -> Result<(), AllocError>
+        requires { self.old.run.current ≡ Outside }
         ensures same { self.new ≡ record self.old { run = record self.old.run { current = self.new.run.current }; ended = self.new.ended } }
         ensures ended { self.new.ended.items ≡ self.old.ended.items }
-        ensures begins { OnOk result ((o : Open) × (self.new.run.current ≡ Current.Begins o) × (o.row ≡ begun self.old.run.thread self.old.run.nth
-            (commits_known (view_of self.old.thread.pass)) props self.old.thread.engine.arena (unwrap_or (irrevocable_room self.old.thread.engine call.now) 0))
-            × (o.row.calls.room ≤ o.deep) × (o.row.calls.room ≤ o.ends) × (o.row.calls.room ≤ o.cancels)) }
+        ensures begins { OnOk result (BeginsAttempt (begun self.old.run.thread self.old.run.nth (commits_known (view_of self.old.thread.pass)) props self.old.thread.engine.arena
+            (unwrap_or (irrevocable_room self.old.thread.engine call.now) 0)) (unwrap_or (irrevocable_room self.old.thread.engine call.now) 0) self.new.run.current) }
         ensures place { OnOk result (vec_len self.new.ended < vec_capacity self.new.ended) }
         ensures still { OnErr result (self.new.run.current ≡ self.old.run.current) }
     {
@@ -131,9 +126,7 @@ impl<P: Player> Worker<P> {
         let ahead = ahead_of(self.thread.irrevocable_room(call));
         let began = self.thread.known();
         let arena = self.thread.arena().bytes();
-        let attempt = self.run.attempt(alloc, began, props, arena, ahead)?;
-        self.run.current = Current::Begins(attempt);
-        Ok(())
+        self.run.begin(began, props, arena, ahead)
     }
 
     /// The call goes to the thread.
@@ -142,22 +135,23 @@ impl<P: Player> Worker<P> {
         ensures same { self.new ≡ record self.old { thread = self.new.thread } }
         ensures served { Returns (λ a. a) words.now self.old.thread call.now (again_for self.old.run.current self.old.run.again call.now) result self.new.thread }
     {
-        match &self.run.current {
-            Current::Begins(_) => match call {
-                Call::Begin { props, room } => {
-                    self.thread.begin(words, *props, *room, self.run.again)
-                }
-                _ => self.thread.call(words, call),
-            },
-            Current::Outside => self.thread.call(words, call),
-            Current::Within(_) => self.thread.call(words, call),
+        if self.run.current.is_begun() {
+            if let Call::Begin { props, room } = call {
+                return self.thread.begin(words, *props, *room, self.run.again);
+            }
         }
+        self.thread.call(words, call)
     }
 
     /// What comes of the call's answer. The sink is handed each action that has run in the open attempt since.
-    fn take_in<A: ActionSink>(&mut self, sink: &A, call: Call, answer: Answer) -> Option<End>
-        requires asked { (words : WordsValue) × (c : Course P) × (b : Bounds) × (old : Worker P) × IsAsked P.Player words c b old call answer self.old }
-        ensures { (words : WordsValue) (c : Course P) (b : Bounds) (old : Worker P) (shuts : Bool) → IsAsked P.Player words c b old call answer self.old
+    fn take_in<A: ActionSink>(
+        &mut self,
+        sink: &A,
+        call: &mut Call,
+        answer: &mut Answer,
+    ) -> Option<End>
+        requires asked { (words : WordsValue) × (c : Course P) × (b : Bounds) × (old : Worker P) × IsAsked P.Player words c b old call.old answer.old self.old }
+        ensures { (words : WordsValue) (c : Course P) (b : Bounds) (old : Worker P) (shuts : Bool) → IsAsked P.Player words c b old call.old answer.old self.old
             → GoesOnOrStops P.Player words shuts old result self.new }
     {
         let told = self.ran();
@@ -181,10 +175,8 @@ impl<P: Player> Worker<P> {
         requires { IsToldBy self.now.thread.engine.actions.ran self.now.run.current }
         ensures { result ≡ told_by self.now.run.current }
     {
-        match &self.run.current {
-            Current::Within(open) => Some(told_of(open.row(), self.thread.due())),
-            _ => None,
-        }
+        let open = self.run.current.within()?;
+        Some(told_of(open.row(), self.thread.due()))
     }
 
     /// The sink is handed the actions that have run, but for those that it knows of.

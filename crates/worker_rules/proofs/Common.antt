@@ -69,8 +69,7 @@ pub use Rattle.tx_runs.specs.Runs.{begins_at, IsBefore}
 pub use Rattle.tx_runs.specs.Savepoints.{cut_back, savepoints_after}
 pub use Rattle.tx_runs.specs.Tallies.{begins, begins_again, begun, entered, outside, over_as, Stage, stage_at, Stand, stand_of, Taken, Tally, took_in, with_call, within}
 pub use Rattle.tx_runs.specs.declared.ending.End.{End}
-pub use Rattle.tx_runs.specs.declared.player_run.Current.{Current}
-pub use Rattle.tx_runs.specs.declared.player_run.Current.TheVariants.{Begins, Outside, Within}
+pub use Rattle.tx_runs.specs.Currents.{Current, Begins, Outside, Within}
 pub use Rattle.tx_runs.specs.declared.savepoint.Savepoint.{Savepoint}
 pub use Rattle.user_actions.specs.Actions.{Actions, total}
 pub use Rattle.worker_rules.specs.Accounts.{Account, account_after, account_of, first_account, tally_in, told}

@@ -19,8 +19,7 @@ use Rattle.call_rules.specs.Standing.{start_of}
 use Rattle.call_rules.specs.Ties.{Stands}
 use Rattle.tx_attempts.specs.declared.attempt.Attempt.{Attempt}
 use Rattle.tx_runs.specs.declared.ending.End.{End}
-use Rattle.tx_runs.specs.declared.player_run.Current.{Current}
-use Rattle.tx_runs.specs.declared.player_run.Current.TheVariants.{Outside, Begins, Within}
+use Rattle.tx_runs.specs.Currents.{Current, Outside, Begins, Within}
 use Rattle.tx_runs.specs.OpenAttempts.{HasPlacesFor, LacksPlaces, promised, told_in}
 use Rattle.tx_runs.specs.PlayerRuns.{MayStop, MayTell, stage_of, tally_of}
 use Rattle.tx_runs.specs.Ranks.{Falls, restarts_left}

@@ -24,8 +24,7 @@ pub use Rattle.tx_runs.proofs.RunLists.{run_still, there_is, try_begun}
 pub use Rattle.tx_runs.specs.Tallies.{came, Tally, within}
 pub use Rattle.tx_runs.specs.declared.ending.End.{End}
 pub use Rattle.tx_runs.specs.declared.ending.End.TheVariants.{Finished, GaveUp, NoMemory}
-pub use Rattle.tx_runs.specs.declared.player_run.Current.{Current}
-pub use Rattle.tx_runs.specs.declared.player_run.Current.TheVariants.{Outside, Within}
+pub use Rattle.tx_runs.specs.Currents.{Current, Outside, Within}
 pub use Rattle.world_laws.specs.Alike.{AreAlike}
 pub use Rattle.world_laws.specs.SameWorlds.{SameWorld, ShowSame}
 pub use Rattle.world_laws.specs.ShownAlone.{DoneBy, ShowsAlone}

@@ -14,8 +14,7 @@ use Rattle.tx_runs.specs.OpenAttempts.{IsBacked, promised, told_in}
 use Rattle.tx_runs.specs.PlayerRuns.{MayGoBack, stage_of}
 use Rattle.tx_runs.specs.Savepoints.{AreSavepoints}
 use Rattle.tx_runs.specs.Tallies.{Stage, outside, begins, within, stand_of}
-use Rattle.tx_runs.specs.declared.player_run.Current.{Current}
-use Rattle.tx_runs.specs.declared.player_run.Current.TheVariants.{Begins, Outside, Within}
+use Rattle.tx_runs.specs.Currents.{Current, Begins, Outside, Within}
 use Rattle.world_rules.specs.Actor.{Actor}
 use Rattle.world_rules.specs.declared.actor.Status.{Status}
 use Rattle.world_rules.specs.declared.actor.Status.TheVariants.{Ready, Waits, Ended}

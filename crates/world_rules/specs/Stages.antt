@@ -3,8 +3,7 @@ use Rattle.std.specs.Prelude.{◌≡◌, ℕ, ◌+◌, ◌<◌, ◌≤◌, List,
 use Rattle.std.specs.Option.{option_map_or}
 use Rattle.itm_types.specs.declared.limits.TheConstants.{MAX_ACTORS}
 use Rattle.tx_attempts.specs.declared.attempt.Attempt.{Attempt}
-use Rattle.tx_runs.specs.declared.player_run.Current.{Current}
-use Rattle.tx_runs.specs.declared.player_run.Current.TheVariants.{Outside, Begins, Within}
+use Rattle.tx_runs.specs.Currents.{Current, Outside, Begins, Within}
 use Rattle.tx_runs.specs.declared.savepoint.Savepoint.{Savepoint}
 use Rattle.tx_runs.specs.PlayerRuns.{stage_of}
 use Rattle.tx_runs.specs.Tallies.{Stage, outside, begins, within}

@@ -19,7 +19,7 @@ use Rattle.itm_types.specs.declared.limits.TheConstants.{MAX_ACTORS}
 use Rattle.itm_types.specs.declared.limits.Limits.{Limits}
 use Rattle.world_rules.specs.World.{World, attempts_of, ending_at}
 use Rattle.tx_player.specs.Rules.{Rules}
-use Rattle.tx_runs.specs.declared.player_run.Current.TheVariants.{Outside}
+use Rattle.tx_runs.specs.Currents.{Outside}
 
 -- the engine of an actor over so many words, with an arena of so many bytes, before its first call
 abbrev pub first_engine : ℕ → ℕ → Limits → Core

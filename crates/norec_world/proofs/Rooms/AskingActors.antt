@@ -11,6 +11,7 @@ use Rattle.tx_runs.specs.Tallies.{begins}
 use Rattle.world_rules.{specs.LocalWork.HasUsedUp, specs.ActionRoom.IsRefused, specs.Sound.IsUnasked}
 use Rattle.run_rules.proofs.IrrevocableCalls.{asks_no_room}
 use Rattle.norec_world.proofs.Common.{ComesInto, next_in}
+use Rattle.norec_world.specs.Calls.{WasRefused}
 use Rattle.event_rules.{proofs.Engines.SoundSteps.rests, proofs.Rooms.ActionRoom.gave_acting}
 use Rattle.norec_world.proofs.Rooms.EngineCalls.{called_acting, used_of_call, used_of_room}
 use Rattle.run_rules.proofs.CallRooms.{backed_came, promised_came}
@@ -199,6 +200,9 @@ module _ {P : Type 0} {rules : Rules P} {cells : Cells} {r : Rows} {a : Actor P}
     backed = λ x e h. absurd (none-some x (sym none ∙ e));
     began = sound.acts.began;
   }
+
+  pub begin_refused : (call : Call) → is_begin call ≡ true → WasRefused rules a a call
+  begin_refused call is = record { unasked = unasked_outside; refused = refused_outside; grows = λ x. is; used = used_outside }
 
   module _ (call : Call) (asks : rules.next_call a.run.player ≡ Some call) (e : Core) where
     abbrev Same : Actor P

@@ -1,5 +1,5 @@
 -- A call goes to the engine: what its result tells leaves room for what comes of it, and where memory is refused, what was asked for is used up.
-use Rattle.std.proofs.Common.{◌≡◌, ◌&&◌, not, nat_lt, ℕ, ◌+◌, ◌-◌, ◌<◌, ◌≤◌, Bool, true, false, [], length, None, Some, refl, sym, ap, ◌∙◌, inl, inr, arith, true≢false, Result, Ok, Err, IfOk, OnErr, Option, zero, suc, if◌then◌else◌, unwrap_or}
+use Rattle.std.proofs.Common.{◌≡◌, ◌&&◌, not, nat_lt, ◌+◌, ◌≤◌, Bool, true, false, [], length, None, Some, refl, sym, ap, ◌∙◌, arith, Result, Ok, Err, IfOk, OnErr, Option, if◌then◌else◌, unwrap_or}
 use Rattle.event_rules.proofs.Common.{Actor, Answer, Answers, Asks, Attempt, BacksIn, BeganIn, Call, Core, Current, HasPlace, HasRoomFor, HasRow, IsAtOnce, IsPromised, IsSettled, MayRunOn, NestsBy, Next, Proceeds, Ready, StartsEmpty, Step, Within, active_of, asked, asked_from, came, came_restarted, cancels_in, counted, ends_in, in_transaction, irrevocable_room, is_abort, is_begin, may_go_back, not_at_once, open_in, pending_of, promised, row_open, same_Some, stage_at, stage_of, told_in, total, wanted}
 use Rattle.norec_core.specs.Core.{is_within}
 use Rattle.norec_core.specs.RestartingCalls.{can_restart, arena_ahead}

@@ -7,10 +7,9 @@ use Rattle.tx_runs.specs.Savepoints.{cut_back}
 use Rattle.tx_runs.specs.Tallies.{outside, begins, stage_at}
 use Rattle.world_rules.specs.ActionRoom.{BeganIn}
 use Rattle.norec_core.specs.declared.answer.Answer.TheVariants.{Busy, Conflict, Reply, Restarted}
-use Rattle.tx_runs.specs.declared.player_run.Current.{Current}
+use Rattle.tx_runs.specs.Currents.{Current, Outside, Within}
 use Rattle.norec_core.specs.Restarts.{IsRestart}
 use Rattle.itm_types.specs.declared.limits.TheConstants.{MAX_ACTORS}
-use Rattle.tx_runs.specs.declared.player_run.Current.TheVariants.{Outside, Within}
 use Rattle.tx_runs.specs.declared.player_run.PlayerRun.{PlayerRun}
 use Rattle.tx_runs.specs.declared.savepoint.Savepoint.{Savepoint}
 use Rattle.tx_runs.specs.Tallies.{Stand, Tally, begun, over_as, sent_back, tried, within}

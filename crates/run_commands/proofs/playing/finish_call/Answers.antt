@@ -1,54 +1,35 @@
-use Rattle.std.proofs.Common.{suc, ◌<◌, Bool, arith, refl, sym, subst, ◌∙◌}
-use Rattle.run_commands.proofs.Common.{ItemBegins, Out, call_falls, call_left_at, leaves_on, over_less, takes_one, waits_still}
-use Rattle.run_commands.proofs.Loops.{less_first}
-use Rattle.run_commands.proofs.Plays.{fails_here, performs_stopped, sends_none, sends_on, sends_stopped}
+use Rattle.std.proofs.Common.{ℕ, rules}
+use Rattle.run_commands.proofs.Common.{Takes}
+use Rattle.run_commands.proofs.CallEvents.{call_adds, call_ends_none, call_fails, first_within}
+use Rattle.run_commands.proofs.Plays.{on_any, on_err, on_ok}
 use Rattle.run_commands.proofs.playing.finish_call.Goals as goal
 
-pub loop-goes_on-init : goal.loop-goes_on-init
-loop-goes_on-init g c = record {
-  sends = sends_none c.args.world.now _ c.requires.fresh;
-  took = (0, refl);
-  actors = refl;
-  waits = λ e. c.requires.waits;
-  less = less_first g.P.Player c.args.thread c.args.world.now c.requires.waits;
-}
-
-pub take_event-requires-clause-waits : goal.take_event-requires-clause-waits
-take_event-requires-clause-waits g c = c.loop-goes_on.invariant.waits c.loop-goes_on-test.true
-
-pub loop-goes_on-smaller : goal.loop-goes_on-smaller
-loop-goes_on-smaller g c =
-    subst (λ (on : Bool). call_left_at g.P.Player c.args.thread c.in_ok-goes_on.goes_on c.take_event.new.world < call_left_at g.P.Player c.args.thread on c.loop-goes_on.world) (sym c.loop-goes_on-test.true)
-    (call_falls g.P.Player c.args.thread c.in_ok-goes_on.goes_on c.loop-goes_on.world c.take_event.new.world
-    (c.loop-goes_on.invariant.waits c.loop-goes_on-test.true) c.take_event.ensures.goes.actors c.in_ok-goes_on.ensures.less)
-
-pub loop-goes_on-preserved : goal.loop-goes_on-preserved
-loop-goes_on-preserved g c =
-    let before = c.loop-goes_on.invariant in
-    let waits = before.waits c.loop-goes_on-test.true in
-    let goes = c.take_event.ensures.goes in
-    record {
-      sends = sends_on before.sends c.in_ok-goes_on.ensures.sends;
-      took = (suc before.took.0, takes_one g.P.Player c.args.thread before.took.0 c.args.world.now c.loop-goes_on.world c.take_event.new.world before.took.1 goes);
-      actors = goes.actors ∙ before.actors;
-      waits = waits_still g.P.Player c.args.thread c.in_ok-goes_on.goes_on c.loop-goes_on.world c.take_event.new.world waits goes.actors c.in_ok-goes_on.ensures.less;
-      less = leaves_on g.P.Player c.args.thread c.loop-goes_on.goes_on c.in_ok-goes_on.goes_on c.args.world.now c.loop-goes_on.world c.take_event.new.world c.loop-goes_on-test.true waits before.less c.in_ok-goes_on.ensures.less;
-    }
-
-pub returns-in_err-goes_on-clause-performs : goal.returns-in_err-goes_on-clause-performs
-returns-in_err-goes_on-clause-performs g c =
-    let before = c.loop-goes_on.invariant in
-    let goes = c.take_event.ensures.goes in
-    let sends = sends_stopped c.from_residual.result before.sends c.in_err-goes_on.ensures.sends (grind arith) in
-    performs_stopped g.P.Player sends c.from_residual.ensures.0
-    (fails_here g.P.Player (ItemBegins g.P.Player (Out c.args.thread)) c.args.world.now c.loop-goes_on.world c.take_event.new.world c.args.thread _ _ _ c.requires.fresh before.sends.answer before.sends.adds c.take_event.ensures.sends.adds
-    before.took (suc before.took.0, takes_one g.P.Player c.args.thread before.took.0 c.args.world.now c.loop-goes_on.world c.take_event.new.world before.took.1 goes) goes)
-    (goes.actors ∙ before.actors)
+pub put_ended-requires-clause-first : goal.put_ended-requires-clause-first
+put_ended-requires-clause-first g c = first_within g.P.Player c.args.thread c.args.world.now c.finish_call-taken.new.self c.finish_call-taken.ensures.ends c.ended-first.result c.ended-first.ensures.value
 
 pub returns-clause-performs : goal.returns-clause-performs
 returns-clause-performs g c =
-    let at_end = c.loop-goes_on.invariant in
-    record { sends = at_end.sends; leads = at_end.took; fails = record {}; actors = at_end.actors }
+    let call = c.finish_call-taken.ensures in
+    let new = c.finish_call-taken.new.self in
+    let put = c.put_ended.ensures in
+    let took : (n : ℕ) × Takes g.P.Player c.args.thread n c.args.world.now new = (call.took.took.0, call.took.took.1) in
+    let fits = on_ok c.put_ended.result _ put.answer put.fits in
+    record {
+      sends = record { same = put.same; answer = put.answer; adds = call_adds g.P.Player c.args.thread c.args.world.now new call.ends c.ended-first.result _ _ c.ended-first.ensures.value put.adds fits };
+      leads = on_any c.put_ended.result took;
+      fails = on_err c.put_ended.result (call_fails g.P.Player c.args.thread c.args.world.now new call.ends c.ended-first.result _ _ c.requires.fresh c.ended-first.ensures.value put.adds fits took);
+      actors = call.took.actors;
+    }
 
 pub returns-clause-less : goal.returns-clause-less
-returns-clause-less g c = over_less g.P.Player c.args.thread c.loop-goes_on.goes_on c.args.world.now c.loop-goes_on.world c.loop-goes_on-test.false c.loop-goes_on.invariant.less
+returns-clause-less g c = on_any c.put_ended.result c.finish_call-taken.ensures.less
+
+pub returns-then-ended-first-clause-performs : goal.returns-then-ended-first-clause-performs
+returns-then-ended-first-clause-performs g c =
+    let call = c.finish_call-taken.ensures in
+    record {
+      sends = record { same = search rules; answer = c.requires.fresh; adds = call_ends_none g.P.Player c.args.thread c.args.world.now c.finish_call-taken.new.self call.ends c.ended-first.result c.ended.result _ c.ended-first.ensures.value c.ended.ensures.value c.if-ended-first.true };
+      leads = (call.took.took.0, call.took.took.1);
+      fails = record {};
+      actors = call.took.actors;
+    }
