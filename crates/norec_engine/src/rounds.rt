@@ -4,7 +4,6 @@
 //! phase's own function. (A test before the step alone would not do: across an atomic step compilers forget what it found.)
 
 ghost use Rattle.std.specs.Prelude.{◌≡◌, ℕ, IfNone, IfSome, true};
-ghost use Rattle.norec_core.specs.Aims.{Aim};
 ghost use Rattle.norec_core.specs.Moves.{IsResumed};
 ghost use Rattle.norec_core.specs.Phases.{RoundEnd, RoundRow, RoundStart};
 ghost use Rattle.norec_core.specs.Proceeds.{Fits};

@@ -9,6 +9,8 @@ ghost use Rattle.norec_core.specs.Proceeds.{Fits};
 ghost use Rattle.norec_engine.specs.Modes.{CallComesIn, engine_in, IsHandedIn, IsSoundIn, IsSoundWith, IsTaken, StepTurnsIn};
 
 use itm_types::{Call, Props, Step};
+use norec_accesses::{confirmed, loaded};
+use norec_blocks::{begin_seen, exchanged, freed, stored};
 use norec_core::Answer;
 use norec_data::{Data, Pending, Turn};
 use std::alloc::AllocError;
@@ -76,25 +78,20 @@ pub(crate) fn take(
     requires asked { Asked turn }
     ensures { IsTaken irrevocable.old turn state.old (next_in result answer.new) state.new pending.new irrevocable.new }
 {
-    match turn {
-        Turn::Wait(next) => Some(wait(state, pending, was, next)),
-        Turn::End(end) => {
-            *pending = Pending::Idle;
-            *irrevocable = false;
-            end.tell(state, answer);
-            None
-        }
-        Turn::EndIrrevocable(end) => {
-            *pending = Pending::Idle;
-            *irrevocable = true;
-            end.tell(state, answer);
-            None
-        }
-    }
+    let (end, stays) = match turn {
+        Turn::Wait(next) => return Some(wait(state, pending, was, next)),
+        Turn::End(end) => (end, false),
+        Turn::EndIrrevocable(end) => (end, true),
+    };
+    *pending = Pending::Idle;
+    *irrevocable = stays;
+    end.tell(state, answer);
+    None
 }
 
-/// The value of the step that is waited for is handed in, and the turn that comes of it is taken. Of the phases that most
-/// transactions have, each has code of its own: there nothing is found out twice.
+/// The value of the step that is waited for is handed in, and the turn that comes of it is taken. The phases that most
+/// transactions have go by the functions of their own. The turn is taken at one place: with one for each phase the code is
+/// too large for the compiler to put it in the place of its calls.
 #[inline(always)]
 pub(crate) fn hand_in(
     state: &mut Data,
@@ -111,61 +108,21 @@ pub(crate) fn hand_in(
     if *irrevocable {
         return hand_in_any(state, pending, irrevocable, seen, answer);
     }
-    match *pending {
-        Pending::Begin => {
-            hand_in_at(
-                state,
-                pending,
-                irrevocable,
-                false,
-                Pending::Begin,
-                seen,
-                answer,
-            )
-        }
+    let turn = match *pending {
         Pending::Load => {
-            hand_in_at(
-                state,
-                pending,
-                irrevocable,
-                false,
-                Pending::Load,
-                seen,
-                answer,
-            )
+            let Turn::Wait(next) = loaded(state, seen) else {
+                unreachable!();
+            };
+            return Some(wait(state, pending, false, next));
         }
-        Pending::Confirm(value) => {
-            let at = Pending::Confirm(value);
-            hand_in_at(state, pending, irrevocable, false, at, seen, answer)
-        }
-        Pending::Exchange => {
-            hand_in_at(
-                state,
-                pending,
-                irrevocable,
-                false,
-                Pending::Exchange,
-                seen,
-                answer,
-            )
-        }
-        Pending::Store(row) => {
-            let at = Pending::Store(row);
-            hand_in_at(state, pending, irrevocable, false, at, seen, answer)
-        }
-        Pending::Free => {
-            hand_in_at(
-                state,
-                pending,
-                irrevocable,
-                false,
-                Pending::Free,
-                seen,
-                answer,
-            )
-        }
-        _ => hand_in_any(state, pending, irrevocable, seen, answer),
-    }
+        Pending::Begin => begin_seen(state, seen),
+        Pending::Confirm(value) => confirmed(state, value, seen),
+        Pending::Exchange => exchanged(state, seen),
+        Pending::Store(row) => stored(state, row),
+        Pending::Free => freed(state),
+        _ => return hand_in_any(state, pending, irrevocable, seen, answer),
+    };
+    take(state, pending, irrevocable, false, turn, answer)
 }
 
 /// The same in any phase.
@@ -183,29 +140,7 @@ fn hand_in_any(
     ensures { IsHandedIn irrevocable.old state.old pending.old seen (next_in result answer.new) state.new pending.new irrevocable.new }
 {
     let was = *irrevocable;
-    let at = *pending;
-    hand_in_at(state, pending, irrevocable, was, at, seen, answer)
-}
-
-/// The same where the mode `was` so and the call waits `at` this phase: who knows them says them, so that neither is tested again.
-#[inline(always)]
-fn hand_in_at(
-    state: &mut Data,
-    pending: &mut Pending,
-    irrevocable: &mut bool,
-    was: bool,
-    at: Pending,
-    seen: u64,
-    answer: &mut Answer,
-) -> Option<Step>
-    requires mode { irrevocable.old ≡ was }
-    requires phase { pending.old ≡ at }
-    requires sound { IsSoundIn irrevocable.old state.old (phase_of state.old pending.old) }
-    requires waits { IsSome (engine_in irrevocable.old state.old (phase_of state.old pending.old)).waits }
-    requires fits { Fits (engine_in irrevocable.old state.old (phase_of state.old pending.old)) seen }
-    ensures { IsHandedIn irrevocable.old state.old pending.old seen (next_in result answer.new) state.new pending.new irrevocable.new }
-{
-    let turn = resume(state, was, at, seen);
+    let turn = resume(state, was, *pending, seen);
     take(state, pending, irrevocable, was, turn, answer)
 }
 
