@@ -20,7 +20,6 @@ TakesOn {P} rules actor (suc n) old new = (before : World P) × TakesOn rules ac
 -- Events of a call in progress were taken, and each but the last left it a further step to take: so the last one alone may have ended an attempt.
 pub record EndsLast {P : Type 0} (rules : Rules P) (actor : ℕ) (old new : World P) : Type 0 where
   pub before : World P
-  pub first : (n : ℕ) × Takes rules actor n old before
   pub goes_on : (n : ℕ) × TakesOn rules actor n old before
   pub over : goes_on_at before actor ≡ false  -- the last one ends the call
   pub opening : SameOpening old before

@@ -2,6 +2,7 @@
 use Rattle.std.proofs.Common.{◌≡◌, ◌≤◌, ℕ, List, [], length, drop, flat_map, None, sym, ap, ◌∙◌, append-nil, All}
 use Rattle.run_commands.proofs.Common.{Adds, AddsEnded, All-nil, Attempt, AttemptFits, Fails, ItemBegins, Out, Rules, StreamState, Takes, World, adds_nothing, attempt_lines, ended_within}
 use Rattle.run_commands.proofs.Plays.{adds_both, event_adds, event_ends_none, fails_here}
+use Rattle.norec_world.proofs.EventsInRow.{takes_on}
 use Rattle.norec_world.specs.Taken.{EndsLast}
 
 module _ {P : Type 0} (rules : Rules P) (thread : ℕ) (old new : World P) (e : EndsLast rules thread old new) where
@@ -28,4 +29,4 @@ module _ {P : Type 0} (rules : Rules P) (thread : ℕ) (old new : World P) (e : 
   pub call_fails : (n : ℕ) (s t : StreamState) → s.fault ≡ None → n ≡ length old.attempts.ended → Adds s t (flat_map attempt_lines (drop n new.attempts.ended)) → (t.fault ≡ None → All AttemptFits (drop n new.attempts.ended))
       → ((k : ℕ) × Takes rules thread k old new) → Fails rules (ItemBegins rules (Out thread)) old new s t
   call_fails n s t fresh long p fits all =
-      fails_here rules (ItemBegins rules (Out thread)) old e.before new thread s s t fresh fresh (adds_still s) (event_adds rules e.before new thread n s t e.waits e.last (same_count n long) p fits) e.first all e.last
+      fails_here rules (ItemBegins rules (Out thread)) old e.before new thread s s t fresh fresh (adds_still s) (event_adds rules e.before new thread n s t e.waits e.last (same_count n long) p fits) (e.goes_on.0, takes_on rules thread e.goes_on.0 old e.before e.goes_on.1) all e.last

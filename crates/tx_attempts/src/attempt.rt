@@ -1,7 +1,7 @@
 //! What the tries of transactions did.
 
 ghost use Rattle.std.specs.Prelude.{◌≡◌};
-ghost use Rattle.tx_attempts.specs.declared.attempt.Outcome.TheVariants.{Unfinished};
+ghost use Rattle.tx_attempts.specs.Attempts.{blank};
 
 use crate::lists::{Bytes, Calls, RanActions};
 use crate::restarts::Restarts;
@@ -73,7 +73,7 @@ impl Attempt {
     /// An attempt that has not begun, in whose place one will. Takes no memory.
     #[inline(always)]
     pub fn blank(alloc: Global) -> Self
-        ensures { result.outcome ≡ Unfinished }
+        ensures { result ≡ blank }
     {
         Attempt {
             outcome: Outcome::Unfinished,

@@ -95,10 +95,11 @@ impl Calls {
         self.room
     }
 
-    /// No calls any more, and room for so many.
+    /// No calls any more, and room for so many; for none where memory is refused.
     #[inline(always)]
     pub fn start_anew(&mut self, room: usize) -> Result<(), AllocError>
         ensures none { OnOk result (self.new ≡ record { list = []; room = room }) }
+        ensures err { OnErr result (self.new ≡ record { list = []; room = 0 }) }
         ensures short { OnErr result (0 < room) }
     {
         self.cut(0);

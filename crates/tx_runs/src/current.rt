@@ -109,6 +109,7 @@ impl Current {
     /// The begin was accepted: its attempt is open, and reads at this position.
     #[inline(always)]
     pub(crate) fn enter(&mut self, at: u64)
+        requires { (o : Open) × (self.old ≡ Begins o) }
         ensures { (o : Open) → self.old ≡ Begins o → self.new ≡ Within (record o { row = record o.row { at = at }; points = [] }) }
     {
         self.state = BlockState::Within;

@@ -2,10 +2,11 @@
 
 ghost use Rattle.std.specs.Prelude.{◌≡◌, ◌+◌, ◌^◌, ◌<◌, ◌≤◌, [], true, length, None, IfOk, OnOk, OnErr};
 ghost use Rattle.tx_attempts.specs.declared.attempt.Outcome.TheVariants.{Unfinished};
+ghost use Rattle.tx_attempts.specs.Attempts.{blank};
 ghost use Rattle.tx_attempts.specs.Kept.{reserved};
 ghost use Rattle.itm_types.specs.Calls.{is_begin};
 ghost use Rattle.tx_attempts.specs.Restarts.{ran_on};
-ghost use Rattle.tx_runs.specs.Tallies.{Stand, begun, ending_as, with_call};
+ghost use Rattle.tx_runs.specs.Tallies.{begun, ending_as, with_call};
 ghost use Rattle.tx_runs.specs.OpenAttempts.{BeganBy, HasPlacesFor, IsBacked, LacksPlaces, no_rooms, open_of, rooms_in, told_in};
 ghost use Rattle.tx_runs.specs.Savepoints.{cut_back, savepoints_after};
 
@@ -42,7 +43,9 @@ impl Model for OpenAttempt {
 
 impl OpenAttempt {
     /// A place for attempts. Takes no memory.
-    pub(crate) fn blank(alloc: Global) -> Self {
+    pub(crate) fn blank(alloc: Global) -> Self
+        ensures { result ≡ open_of blank no_rooms }
+    {
         OpenAttempt {
             row: Attempt::blank(alloc),
             places: None,
@@ -212,7 +215,7 @@ impl OpenAttempt {
         requires told { told_in self.old.row ≤ length due.now }
         requires room { told_in self.old.row < length due.now → length due.now ≤ self.old.cancels }
         ensures row { self.new.row ≡ record self.old.row { ran = ran_on self.old.row.ran self.old.row.restarts due.now } }
-        ensures same { (self.new.points ≡ self.old.points) × (self.new.ends ≡ self.old.ends) × (self.new.deep ≡ self.old.deep) }
+        ensures same { (self.new.points ≡ self.old.points) × (self.new.ends ≡ self.old.ends) × (self.new.deep ≡ self.old.deep) × (self.new.again ≡ self.old.again) }
         ensures kept { told_in self.old.row ≡ length due.now → self.new.cancels ≡ self.old.cancels }
     {
         let told = told_of(&self.row, due);
@@ -250,7 +253,8 @@ impl OpenAttempt {
     pub(crate) fn end(&mut self, outcome: Outcome, at: u64, due: &[Ran]) -> Attempt
         requires told { told_in self.old.row ≤ length due.now }
         requires room { length due.now ≤ self.old.ends }
-        ensures { (is_open arena : _) → result ≡ ending_as outcome (record { is_open = is_open; at = at; ran = due.now; arena = arena }) self.old.row }
+        ensures ended { (is_open arena : _) → result ≡ ending_as outcome (record { is_open = is_open; at = at; ran = due.now; arena = arena }) self.old.row }
+        ensures blank { self.new ≡ open_of blank no_rooms }
     {
         if let Some(mut places) = self.places.take() {
             let told = told_of(&self.row, due);

@@ -2,10 +2,8 @@
 
 ghost use Rattle.std.specs.Prelude.{◌≡◌, ◌+◌, ◌<◌, ◌≤◌, ◌++◌, false, true, nat_lt, if◌then◌else◌, List, Option, None, Some, OnOk, OnErr, length, vec_len, vec_capacity};
 ghost use Rattle.itm_types.specs.declared.limits.TheConstants.{MAX_RETRIES};
-ghost use Rattle.norec_core.specs.Restarts.{IsRestart};
 ghost use Rattle.norec_core.specs.declared.answer.Answer.TheVariants.{Restarted};
 ghost use Rattle.norec_core.specs.Restarts.{IsRestart};
-ghost use Rattle.tx_attempts.specs.Kept.{spent};
 ghost use Rattle.tx_runs.specs.declared.ending.End.TheVariants.{GaveUp};
 ghost use Rattle.tx_runs.specs.Currents.{Outside, Begins, Within, BeginsAttempt};
 ghost use Rattle.itm_types.specs.declared.call.Ran.{Ran};
@@ -64,6 +62,7 @@ impl<P: Player> PlayerRun<P> {
         arena: &[u8],
         ahead: usize,
     ) -> Result<(), AllocError>
+        requires { self.old.current ≡ Outside }
         ensures begins { OnOk result (BeginsAttempt (begun self.old.thread self.old.nth began props arena.now ahead) ahead self.new.current) }
         ensures err { OnErr result (self.new.current ≡ Outside) }
         ensures same { self.new ≡ record self.old { current = self.new.current } }

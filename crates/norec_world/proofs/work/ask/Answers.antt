@@ -60,6 +60,9 @@ returns-in-Some g c =
 
 -- ## Outside a transaction
 
+pub begin-requires : goal.begin-requires
+begin-requires g c = outside_current c.args.actor.now.run.current (out_outside c.requires.sound c.requires.ready (not_within c.args.actor.now.run.current c.in_default.ensures.value))
+
 -- the run that an outermost begin leaves without an attempt is as it was
 unbegun : {P : Type 0} (old mid : PlayerRun P) (left : Current) → stage_of old.current ≡ outside → mid ≡ record old { current = mid.current } → left ≡ Outside → record mid { current = left } ≡ old
 unbegun old mid left out same is = λ i. record (same i) { current = (is ∙ sym (outside_current old.current out)) i }

@@ -30,7 +30,7 @@ loop-goes_on-preserved g c =
       waits = waits_still g.P.Player c.args.actor c.event-goes_on.result c.loop-goes_on.self c.event-goes_on.new.self waits goes.actors c.event-goes_on.ensures.less;
       quiet = λ on. quiet_event g.P.Player c.args.actor c.event-goes_on.result c.loop-goes_on.self c.event-goes_on.new.self waits goes c.event-goes_on.ensures.tells on ∙ invariant.quiet c.loop-goes_on-test.true;
       on = λ on. (suc (invariant.on c.loop-goes_on-test.true).0, (c.loop-goes_on.self, (invariant.on c.loop-goes_on-test.true).1, sym c.event-goes_on.ensures.tells.before ∙ on, goes));
-      ends = λ off. record { before = c.loop-goes_on.self; first = (before.took.0, before.took.1); goes_on = invariant.on c.loop-goes_on-test.true; over = sym c.event-goes_on.ensures.tells.before ∙ off; opening = before.opening; ended = invariant.quiet c.loop-goes_on-test.true; waits = waits; last = goes };
+      ends = λ off. record { before = c.loop-goes_on.self; goes_on = invariant.on c.loop-goes_on-test.true; over = sym c.event-goes_on.ensures.tells.before ∙ off; opening = before.opening; ended = invariant.quiet c.loop-goes_on-test.true; waits = waits; last = goes };
       less = leaves_on g.P.Player c.args.actor c.loop-goes_on.goes_on c.event-goes_on.result c.args.self.now c.loop-goes_on.self c.event-goes_on.new.self c.loop-goes_on-test.true waits invariant.less c.event-goes_on.ensures.less;
     }
 

@@ -15,6 +15,6 @@ none_over outcome s (Within o) none = absurd (none o refl)
 pub returns-clause-over : goal.returns-clause-over
 returns-clause-over g c is_open arena =
     elim c.match-within_mut.branch [
-      | in-Some w ↦ rw (w.ended-is, w.push_reserved.ensures.items, w.end.ensures is_open arena, w.in-Some.ensures.value)
+      | in-Some w ↦ rw (w.ended-is, w.push_reserved.ensures.items, w.end.ensures.ended is_open arena, w.in-Some.ensures.value)
       | in_default w ↦ rw (w.ended-is, none_over c.args.outcome _ c.args.self.now.current w.in_default.ensures.value, append-nil c.args.ended.now.items)
     ]
