@@ -90,8 +90,9 @@ pub(crate) fn take(
 }
 
 /// The value of the step that is waited for is handed in, and the turn that comes of it is taken. The phases that most
-/// transactions have go by the functions of their own. The turn is taken at one place: with one for each phase the code is
-/// too large for the compiler to put it in the place of its calls.
+/// transactions have go by functions of their own. After a load another step is always waited for; the turns of the others are
+/// taken at one place: with one place for each, this function grew so large that the compiler no longer put it where it is
+/// called.
 #[inline(always)]
 pub(crate) fn hand_in(
     state: &mut Data,

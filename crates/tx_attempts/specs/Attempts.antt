@@ -13,7 +13,7 @@ use Rattle.tx_attempts.specs.declared.attempt.Outcome.TheVariants.{Committed, Re
 use Rattle.tx_attempts.specs.declared.attempt.Attempt.{Attempt}
 use Rattle.tx_attempts.specs.Restarts.{breaks_in, breaks_of}
 
--- one that has not begun, in whose place one will
+-- an attempt that has not begun, in whose place one will
 abbrev pub blank : Attempt
 blank = record { outcome = Unfinished; props = record { no_abort = false; no_irrevocable = false; goes_irrevocable = false }; thread = 0; nth = 0; began = 0; at = 0; arena = []; calls = record { list = []; room = 0 }; restarts = []; ran = [] }
 

@@ -97,10 +97,10 @@ impl Current {
         arena: &[u8],
         ahead: usize,
     ) -> Result<(), AllocError>
+        requires { self.old ≡ Outside }
         ensures begins { OnOk result (BeginsAttempt (begun thread nth began props arena.now ahead) ahead self.new) }
         ensures err { OnErr result (self.new ≡ Outside) }
     {
-        self.state = BlockState::Outside;
         self.attempt.begin(thread, nth, began, props, arena, ahead)?;
         self.state = BlockState::Begins;
         Ok(())

@@ -112,7 +112,7 @@ impl<P: Player> Worker<P> {
         }
     }
 
-    /// The attempt that an outermost begin is to open. It begins with the commits that the thread knows of.
+    /// An outermost begin is to open an attempt, which begins with the commits that the thread knows of.
     fn prepare_begin(&mut self, call: &Call, props: Props) -> Result<(), AllocError>
         requires { self.old.run.current ≡ Outside }
         ensures same { self.new ≡ record self.old { run = record self.old.run { current = self.new.run.current }; ended = self.new.ended } }
