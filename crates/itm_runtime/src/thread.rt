@@ -238,6 +238,13 @@ impl Thread {
         self.engine.irrevocable_room(call)
     }
 
+    /// How often the inner blocks of one transaction may go back to their begins.
+    pub fn restarts(&self) -> u32
+        ensures { result ≡ self.now.engine.restarts }
+    {
+        self.engine.restarts()
+    }
+
     /// How many bytes the arena has, where the innermost block may go back to its begin by the call: it is within another one, a
     /// restart is left, the transaction is not irrevocable, and the call reads shared bytes or takes the clock.
     pub fn arena_ahead(&self, call: &Call) -> Option<usize>

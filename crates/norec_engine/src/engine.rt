@@ -318,6 +318,13 @@ impl Engine {
         }
     }
 
+    /// How often the inner blocks of one transaction may go back to their begins.
+    pub fn restarts(&self) -> u32
+        ensures { result ≡ self.now.restarts }
+    {
+        self.state.limits.restarts
+    }
+
     /// How many bytes the arena has, where the innermost block may go back to its begin by the call: it is within another one, a
     /// restart is left, the transaction is not irrevocable, and the call reads shared bytes or takes the clock. Whoever tells of
     /// a block that goes back makes room for so many before the call.
