@@ -61,6 +61,7 @@ start 'what is refused or cut off' env JOBS=2 SCRIPTS=few sh "$root/tests/sweeps
 start 'threads that stop' env JOBS=2 sh "$root/tests/sweeps.sh" stops
 start 'the tables' sh "$root/tests/tables.sh"
 start 'the documents' python3 -B "$root/tests/documents.py"
+start 'the named wrong bodies' python3 -B "$root/tests/named_bodies.py"
 
 : >"$work/input"
 want_line 'itmrun: usage: itmrun asm|sched|threads|check FILE'
