@@ -1,8 +1,8 @@
-//! Writers that fail.
+//! A reader and writers that fail.
 
 use std::alloc::AllocError;
 use std::io;
-use std::io::Write;
+use std::io::{Read, Write};
 
 /// Takes at most `most` bytes a write, so many writes. The write after them fails or takes nothing, and only that one;
 /// so does a flush in its place.
@@ -66,5 +66,28 @@ impl Write for Failing {
 
     fn flush(&mut self) -> io::Result<()> {
         Ok(())
+    }
+}
+
+/// Gives a text, some bytes a read, so many reads. The read after them fails, and only that one.
+#[derive(Drop)]
+pub struct Halting<'a> {
+    pub left: &'a [u8],
+    pub reads: usize,
+}
+
+impl<'a> Read for Halting<'a> {
+    fn read(&mut self, buf: &mut [u8]) -> io::Result<usize> {
+        if self.reads == 0 {
+            self.reads = usize::MAX;
+            return Err(io::ErrorKind::Other.into());
+        }
+        let n = buf.len().min(self.left.len()).min(7);
+        let (part, _) = buf.split_at_mut(n);
+        let (front, rest) = self.left.split_at(n);
+        part.copy_from_slice(front);
+        self.left = rest;
+        self.reads -= 1;
+        Ok(n)
     }
 }
