@@ -57,7 +57,8 @@ start 'histories' part judging histories versions restarts
 start 'bodies that only tests refuse' sh "$root/tests/planted.sh"
 start 'memory refused to engines' env SCRIPTS=few sh "$root/tests/sweeps.sh" engines
 start 'compiled programs' sh "$root/compiled/test.sh" few
-start 'what is refused or cut off' env JOBS=2 SCRIPTS=few sh "$root/tests/sweeps.sh" sched asm check threads cuts files
+start 'memory refused to each script' env JOBS=2 SCRIPTS=few sh "$root/tests/sweeps.sh" sched
+start 'what is refused or cut off' env JOBS=2 SCRIPTS=few sh "$root/tests/sweeps.sh" asm check threads cuts files
 start 'threads that stop' env JOBS=2 sh "$root/tests/sweeps.sh" stops
 start 'the tables' sh "$root/tests/tables.sh"
 start 'the documents' python3 -B "$root/tests/documents.py"

@@ -1,7 +1,7 @@
 #!/bin/sh
 # The worked scripts, those in examples/ and in tests/rows/, and their histories through the built program, with something
-# refused or cut off at each place in turn: sh tests/sweeps.sh [SWEEP..]. The gate has `stops`, and of the others a
-# few scripts (SCRIPTS=few). Needs python3; what refuses needs gcc, and `engines` needs rt.
+# refused or cut off at each place in turn: sh tests/sweeps.sh [SWEEP..]. The gate has them with SCRIPTS=few. Needs python3;
+# what refuses needs gcc, and `engines` needs rt.
 #
 # - `sched`, `asm`, `check` and `threads`: each growth of memory refused, it alone, and it with all that come after it; under
 #   `threads` each thread too.
@@ -10,9 +10,11 @@
 # - `files`: under each command each read and each write that fails, and such that move one byte.
 # - `engines`: tests/refused.sh, whose tests call engines, their parts and the plain machine with each allocation refused.
 #
-# All sweeps, or those that are named, over all scripts, or with SCRIPTS=few over some; what each answer has to be is said in
-# tests/sweeps/. Something is refused by a library before the C library's (tests/sweeps/refuse.c). JOBS=N takes so many
-# scripts at a time, as many as there are processors where it is not said; one at a time all of them take a quarter of an
+# All sweeps, or those that are named, over all scripts; what each answer has to be is said in tests/sweeps/. With SCRIPTS=few
+# `sched` and `stops` are as they are else, so that each growth of each script is refused; `asm`, `check` and `threads` try
+# each place of some scripts, and of the others one in 16, which the script's text draws, the same at each run; `cuts` and
+# `files` take some scripts. Something is refused by a library before the C library's (tests/sweeps/refuse.c). JOBS=N takes so
+# many scripts at a time, as many as there are processors where it is not said; one at a time all of them take a quarter of an
 # hour, and `engines` some three minutes more. ITMRUN=PROGRAM takes another built program than this tree's. The last line is
 # "N passed, M failed"; the exit status is 0 where none failed.
 

@@ -7,11 +7,10 @@ run, and so does how many there are.
 """
 
 import collections
-import itertools
 
 from run import STARVED
 from threads import run_of
-from worked import NO_MEMORY, NO_THREAD, expect, refusing
+from worked import NO_MEMORY, NO_THREAD, expect, places, refusing
 
 TURNS = 2  # runs for each allocation
 
@@ -33,7 +32,7 @@ def threads(setup, worked):
         return counts
     script = worked.script()
     for later in ({}, {"REFUSE_LATER": 1}):
-        for number in itertools.count(1):
+        for number in places(setup, worked.text):
             answers = [refusing(setup, "threads", worked.text, REFUSE=number, **later) for _ in range(TURNS)]
             counts.update(kind(setup.program, script, answer) for answer, refused in answers if refused)
             if not any(refused for _, refused in answers):

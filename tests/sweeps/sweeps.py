@@ -1,7 +1,8 @@
 """Runs the sweeps, each over the worked scripts.
 
 sweeps.py PROGRAM LIBRARY JOBS SCRIPTS [SWEEP..]: all sweeps, or those that are named, so many scripts at a time; SCRIPTS is
-`all`, or `few` for a short sweep. LIBRARY is one that refuses things (refuse.c). Of each sweep the numbers of its runs are told. The last line is "N passed, M failed".
+`all`, or `few` for a short sweep. LIBRARY is one that refuses things (refuse.c). Of each sweep the numbers of its runs are
+told. The last line is "N passed, M failed".
 """
 
 import collections
@@ -10,7 +11,7 @@ import subprocess
 import sys
 import time
 
-from worked import Setup, worked
+from worked import FEW, Setup, worked
 from cuts import cuts
 from driver import Wrong
 from files import files
@@ -20,6 +21,8 @@ from stops import stops
 
 MOST = 600  # of what is wrong, so many characters are told
 SWEEPS = {it.__name__: it for it in (sched, asm, check, threads, stops, cuts, files)}
+# a short sweep takes few scripts here, and there one place in so many of the others
+OF_FEW, SAMPLED, SHARE = {"cuts", "files"}, {"asm", "check", "threads"}, 16
 # the answers that have to come, so that no program passes that tells want of memory of a whole run alone
 DUE = {"sched": {BEFORE, THREAD, WHOLE}, "threads": {BEFORE, THREAD, "no thread"}}
 
@@ -32,12 +35,18 @@ def tried(sweep, setup, script):
         return f"{script.name}: {str(wrong)[:MOST]}"
 
 
+def share(sweep, script, few):
+    """Of how many places of a script one is tried."""
+    return SHARE if few and sweep in SAMPLED and script.name not in FEW else 1
+
+
 def main(program, library, jobs, scripts, *names):
-    setup, scripts, passed, failed = Setup(program, library), worked(scripts == "few"), 0, 0
+    few, passed, failed = scripts == "few", 0, 0
     with concurrent.futures.ProcessPoolExecutor(int(jobs)) as pool:
         for name in names or SWEEPS:
             start, counts = time.monotonic(), collections.Counter()
-            futures = [pool.submit(tried, name, setup, script) for script in scripts]
+            scripts = worked(few and name in OF_FEW)
+            futures = [pool.submit(tried, name, Setup(program, library, share(name, it, few)), it) for it in scripts]
             for result in (it.result() for it in futures):
                 if isinstance(result, str):
                     failed += 1

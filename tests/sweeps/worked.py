@@ -5,14 +5,15 @@ import os
 import pathlib
 import sys
 import tempfile
+import zlib
 
 ROOT = pathlib.Path(__file__).resolve().parent.parent.parent
 sys.path.insert(0, str(ROOT / "tests/soak"))
 from driver import expect, made
 from script import Script
 
-# the program, and the library that refuses
-Setup = collections.namedtuple("Setup", "program refuse")
+# the program, the library that refuses, and of how many places of a text one is tried
+Setup = collections.namedtuple("Setup", "program refuse every")
 
 NO_MEMORY, NO_THREAD = ((b"", f"itmrun: no {what}\n".encode(), 4) for what in ("memory", "thread"))
 MOST = 20_000  # nothing here is refused so often
@@ -52,10 +53,15 @@ def refusing(setup, command, text, **variables):
         return answer, os.path.exists(told)
 
 
+def places(setup, text):
+    """The numbers of what is refused: all, or one of so many, the first of which is drawn by the text."""
+    return range(1 + zlib.crc32(text) % setup.every, MOST, setup.every)
+
+
 def each(setup, command, text, name, **variables):
     """Each answer with one more thing refused, by its number: that of this name. The last run, in which nothing is, has to
     be answered as one without the library."""
-    for number in range(1, MOST):
+    for number in places(setup, text):
         answer, refused = refusing(setup, command, text, **{name: number}, **variables)
         if not refused:
             break
