@@ -88,12 +88,13 @@ pub struct Parting<'a> {
 
 impl<'a> Write for Parting<'a> {
     fn write(&mut self, buf: &[u8]) -> io::Result<usize> {
-        let part = if self.replies.get() < self.last {
-            &mut self.before
+        if self.replies.get() < self.last {
+            self.before
+                .extend_from_slice(buf)
+                .map_err(AllocError::from)?;
         } else {
-            &mut self.after
-        };
-        part.extend_from_slice(buf).map_err(AllocError::from)?;
+            self.after.extend_from_slice(buf).map_err(AllocError::from)?;
+        }
         Ok(buf.len())
     }
 

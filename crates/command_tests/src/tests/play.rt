@@ -28,9 +28,6 @@ _ITM_WU8 0 r2
 _ITM_commitTransaction
 ";
 
-/// Thread 1 commits between the read of thread 0 and its commit, which is tried again.
-const ITEMS: [Item; 3] = [Item::Take(0, 3), Item::Take(1, 6), Item::Out(0)];
-
 /// Four replies to thread 1, three to the first try of thread 0, and four to its second.
 const REPLIES: u32 = 11;
 
@@ -100,12 +97,13 @@ fn begin<'p>(
     World::new(alloc, setup, players)
 }
 
-/// The run is played, and its history written: whether that went well.
+/// Thread 1 commits between the read of thread 0 and its commit, which is tried again: whether the history was written.
 fn is_played(alloc: Global, world: &mut World<Counted<'_>>, writer: &mut Parting<'_>) -> bool
     requires { length world.old.actors ≡ 2 }
 {
+    let items = [Item::Take(0, 3), Item::Take(1, 6), Item::Out(0)];
     let mut stream = Stream::new(writer);
-    play(alloc, world, &ITEMS, Version::One, &mut stream).is_ok()
+    play(alloc, world, &items, Version::One, &mut stream).is_ok()
 }
 
 /// The attempts that have ended before the last reply are written before it.

@@ -3,6 +3,7 @@
 use crate::fakes::Halting;
 use run_commands::sched;
 use std::alloc::Global;
+use std::io::{Read, Write};
 use std::process::Abort;
 use std::test::*;
 
@@ -20,6 +21,16 @@ call _ITM_commitTransaction = ok
 end
 final 0 0000000000000000
 ";
+
+/// The status of a script.
+fn status_of<R: Read, W: Write, E: Write>(
+    alloc: Global,
+    reader: &mut R,
+    output: &mut W,
+    errors: &mut E,
+) -> u8 {
+    sched(alloc, reader, output, errors)
+}
 
 /// Nothing is written, and the errors have the one line; or, where no read has failed, the history is written.
 fn judged(rt: &impl Abort, status: u8, output: &[u8], errors: &[u8]) -> bool {
@@ -42,7 +53,7 @@ fn is_read(rt: &impl Abort, alloc: Global, reads: usize) -> bool {
     };
     let mut output = Vec::new(alloc);
     let mut errors = Vec::new(alloc);
-    let status = sched(alloc, &mut reader, &mut output, &mut errors);
+    let status = status_of(alloc, &mut reader, &mut output, &mut errors);
     judged(rt, status, &output, &errors)
 }
 
