@@ -19,9 +19,9 @@ NO_MEMORY, NO_THREAD = ((b"", f"itmrun: no {what}\n".encode(), 4) for what in ("
 MOST = 20_000  # nothing here is refused so often
 
 # those of a short sweep: each kind of call, and each end that a try or a text may have
-FEW = """lost_update transfers recount logger actions_of_a_full_try arena_copies copy_runs_again crossing_ends irrevocable_actions
-irrevocable_calls_of_each_kind irrevocable_nested outer_abort restart_told_by_the_third_version two_gave_up
-undo_actions_around_an_inner_cancel undo_actions_of_an_impatient_commit""".split()
+FEW = """lost_update which_memory transfers recount logger actions_of_a_full_try arena_copies copy_runs_again crossing_ends
+irrevocable_actions irrevocable_calls_of_each_kind irrevocable_nested outer_abort restart_told_by_the_third_version
+two_gave_up undo_actions_around_an_inner_cancel undo_actions_of_an_impatient_commit""".split()
 
 
 class Worked:
