@@ -89,7 +89,7 @@ module _ {F : Type 0} (fn : Shared F (ℕ × (MutBor Client × Unit {0})) (Optio
 
   module _ (words : Words) (tries : ℕ) (whole : View) where
     one_put : (n upto added : ℕ) (r : Option ℕ) (v : View) (run : HasRun fn f words whole.base tries n r v) → StartsWith whole.seen v.seen → HasWritten first count (32 * (n % 4)) upto added run.lent.now.transaction run.left.now.transaction → PutAll first count (32 * (n % 4)) upto added whole v
-    one_put n upto added r v run begins w = put_all first count whole (32 * (n % 4)) upto added v (view_of run.lent.now.transaction.thread.pass) (view_of run.left.now.transaction.thread.pass) run.ends (sym (w.went.base ∙ run.base_is)) begins run.new w
+    one_put n upto added r v run begins w = put_all first count whole (32 * (n % 4)) upto added v (view_of run.lent.now.transaction.thread.pass) (view_of run.left.now.transaction.thread.pass) run.ends (sym (w.went.base ∙ run.begins.base_is)) begins run.begins.new w
 
     all_put : EachTells → (n : ℕ) (r : Option ℕ) (v : View) → HasRun fn f words whole.base tries n r v → StartsWith whole.seen v.seen → IsSome r → PutAll first count (32 * (n % 4)) 64 (unwrap_or r 0) whole v
     all_put tells n r v run begins some =
@@ -165,8 +165,8 @@ module _ {F : Type 0} (fn : Shared F (ℕ × (MutBor Client × Unit {0})) (Optio
   pub all_commits : EachTells fn f first count → AllTell told → clock ≡ 512
   all_commits tells tell =
       let each : length run.whole.mine ≡ length run.whole.seen = count_is (length run.whole.seen) run.whole.mine run.ends.mine run.ends.no_other in
-      let all : length run.whole.mine ≡ length told * 64 = ap length run.mine ∙ all_count fn f first count run.words tries run.whole tells 0 told run.views run.each tell run.begin in
-      omega (arith, run.ends.clock_is, run.count_is, each, all)
+      let all : length run.whole.mine ≡ length told * 64 = ap length run.all.mine ∙ all_count fn f first count run.words tries run.whole tells 0 told run.all.views run.all.each tell run.all.begin in
+      omega (arith, run.ends.clock_is, run.all.count_is, each, all)
 
   module _ (writes : EachWrites fn f first count) (empty : IsEmpty first count old) where
     begins : HasOnlyPairs first count 160 (bytes_in run.whole 0)
@@ -174,8 +174,8 @@ module _ {F : Type 0} (fn : Shared F (ℕ × (MutBor Client × Unit {0})) (Optio
 
     keeps : (p : ℕ) → p < length run.whole.seen → KeepsAt first count 160 run.whole p
     keeps p few =
-        let own : times p (flat_map (λ (v : View). v.mine) run.views) ≡ 1 = ap (times p) (sym run.mine) ∙ run.ends.mine p few in
-        all_keep fn f first count run.words tries run.whole writes 0 told run.views run.each run.begin p (omega (arith, own))
+        let own : times p (flat_map (λ (v : View). v.mine) run.all.views) ≡ 1 = ap (times p) (sym run.all.mine) ∙ run.ends.mine p few in
+        all_keep fn f first count run.words tries run.whole writes 0 told run.all.views run.all.each run.all.begin p (omega (arith, own))
 
     -- whatever the bodies have told, no other pair is there at the end
     pub only_pairs : HasOnlyPairs first count 160 new
@@ -187,13 +187,13 @@ module _ {F : Type 0} (fn : Shared F (ℕ × (MutBor Client × Unit {0})) (Optio
       where
         there : (i : ℕ) → i < 4 → (m : ℕ) → m < 64 → HasPair first count (32 * ((0 + i) % 4) + m) (bytes_in run.whole (length run.whole.seen))
         there i few m less =
-            let is = each_put fn f first count run.words tries run.whole tells 0 told run.views run.each tell run.begin i (omega (arith, few, run.count_is)) m less in
+            let is = each_put fn f first count run.words tries run.whole tells 0 told run.all.views run.all.each tell run.all.begin i (omega (arith, few, run.all.count_is)) m less in
             put_stays first count 160 run.whole begins keeps (32 * ((0 + i) % 4) + m) is.made is.puts
 
     -- and as many puts were of new keys as there are keys
     pub all_added : EachTells fn f first count → AllTell told → told_in_all told ≡ 160
     all_added tells tell =
-        let all = all_made fn f first count run.words tries run.whole tells 0 told run.views run.each tell run.begin in
+        let all = all_made fn f first count run.words tries run.whole tells 0 told run.all.views run.all.each tell run.all.begin in
         sym all.added_is
-        ∙ as_many_new first count 160 run.whole all.made all.puts (λ p few. ap (times p) (sym all.mine_is) ∙ ap (times p) (sym run.mine) ∙ run.ends.mine p few) (subst (IsEmpty first count) (sym run.bytes) empty) (pairs_at first count 160 run.whole begins keeps)
+        ∙ as_many_new first count 160 run.whole all.made all.puts (λ p few. ap (times p) (sym all.mine_is) ∙ ap (times p) (sym run.all.mine) ∙ run.ends.mine p few) (subst (IsEmpty first count) (sym run.bytes) empty) (pairs_at first count 160 run.whole begins keeps)
         (subst (HasAllPairs first count 160) left (all_pairs tells tell))

@@ -1,12 +1,12 @@
 //! Threads from their start to the bytes that they leave.
 
-ghost use Rattle.std.specs.Prelude.{◌≡◌, ◌<◌, ◌≤◌, ◌+◌, ◌*◌, false, length, IfOk, OnErr};
-ghost use Rattle.shared_words.specs.Passes.{Owns, cells_of, view_of};
-ghost use Rattle.tx_threads.specs.Threads.{Ending, HaveRun, KeepsWords, TellsWrongSize};
+ghost use Rattle.std.specs.Prelude.{◌≡◌, ◌<◌, ◌≤◌, length, IfOk, OnErr};
+ghost use Rattle.tx_threads.specs.Threads.{HaveRun, KeepsWords, TellsWrongSize};
 
-use crate::fault::{Lost, ThreadsFault};
+use crate::closing::read_all;
+use crate::fault::ThreadsFault;
 use crate::serving::serve_all;
-use shared_words::{Pass, Words};
+use shared_words::Words;
 use std::alloc::Global;
 use std::sync::Arc;
 use std::thread::Threads;
@@ -25,7 +25,8 @@ pub struct Joined<T> {
 }
 
 /// Runs the body on so many threads over a memory of these bytes, each with its number, from 0, and a client, whose bodies
-/// are tried as often as is said. Once all are joined, the bytes are what all commits have left.
+/// are tried as often as is said. Once all are joined, the bytes are what all commits have left. All memory is taken before
+/// the first thread starts.
 pub fn run<R: Threads + Sync, T: Send + Drop, F: Fn(usize, &mut Client) -> T + Sync>(
     rt: &R,
     alloc: Global,
@@ -44,35 +45,11 @@ pub fn run<R: Threads + Sync, T: Send + Drop, F: Fn(usize, &mut Client) -> T + S
     ensures still { OnErr result (bytes.new ≡ bytes.old) }
     ensures size { TellsWrongSize (length bytes.old) result }
 {
-    let (words, mut rest) = Words::new(alloc, bytes)?;
-    // it has no client, so what it knows of the bytes at first stays
-    let trunk = words.split(&mut rest);
+    let (words, mut pass) = Words::new(alloc, bytes)?;
     let Ok(words) = Arc::new(alloc, words) else {
         return Err(ThreadsFault::Memory);
     };
-    let served = serve_all(rt, alloc, &words, rest, 0, threads - 1, tries, body)?;
-    let Ok(words) = Arc::try_unwrap(words) else {
-        return Err(ThreadsFault::Kept);
-    };
-    let clock = closed(words, trunk, served.pass, bytes)?;
-    Ok(Joined {
-        values: served.values,
-        clock,
-    })
-}
-
-/// Joins the pass of all threads to the one that had no client, and gives the bytes and the clock.
-fn closed(words: Words, trunk: Pass, other: Pass, bytes: &mut [u8]) -> Result<u64, Lost>
-    requires own { Owns words trunk × Owns words other }
-    requires idle { ((view_of trunk).holds ≡ false) × ((view_of other).holds ≡ false) }
-    requires size { length bytes.old + 8 ≡ 8 * cells_of words }
-    ensures ends { IfOk result (λ clock. Ending (view_of trunk) (view_of other) clock bytes.new) }
-    ensures still { OnErr result (bytes.new ≡ bytes.old) }
-{
-    let mut pass = trunk;
-    words.join(&mut pass, other);
-    if pass.left() != MAX_THREADS {
-        return Err(Lost::Kept);
-    }
-    Ok(words.close(pass, bytes).clock)
+    let values = serve_all(rt, alloc, &words, &mut pass, threads, tries, body)?;
+    let clock = read_all(&*words, pass, bytes);
+    Ok(Joined { values, clock })
 }

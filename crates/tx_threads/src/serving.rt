@@ -1,132 +1,101 @@
-//! What one thread does, and several side by side.
+//! What the threads do, side by side, and what is left once all have ended.
 
-ghost use Rattle.std.specs.Prelude.{◌≡◌, ◌+◌, ◌<◌, ◌^◌, ◌++◌, ◌∷◌, [], false, IfOk};
-ghost use Rattle.std.specs.Thread.{IsSync, IsSend};
-ghost use Rattle.shared_words.specs.Commits.{StartsWith};
-ghost use Rattle.shared_words.specs.Passes.{Owns, view_of};
-ghost use Rattle.tx_threads.specs.Threads.{AreServed, IsNew, KeepsWords};
+ghost use Rattle.std.specs.Prelude.{◌≡◌, ◌<◌, ◌≤◌, false, length, IfOk, IsSome, Some};
+ghost use Rattle.shared_words.specs.Passes.{IsFirst, Owns, view_of};
+ghost use Rattle.shared_words.specs.Steps.{Joined};
+ghost use Rattle.tx_threads.specs.Seats.{AllNew};
+ghost use Rattle.tx_threads.specs.Threads.{AllHaveRun, AreServed, HasServed, KeepsWords};
 
-use crate::fault::Lost;
-use itm_runtime::Thread;
-use itm_types::{Limits, MAX_COMMITS, USUAL_DEPTH};
+use crate::running::MAX_THREADS;
+use crate::seats::{Seat, seats_for};
 use shared_words::{Pass, Words};
-use std::alloc::Global;
+use std::alloc::{AllocError, Global};
 use std::sync::Arc;
-use std::thread::{Threads, join};
+use std::thread::{Threads, for_each_mut};
 use transactions::Client;
-use undo_log::Arena;
 
-/// The limits of a thread where nothing else is said: a call looks at the clock eight times, and no inner block goes back
-/// alone.
-pub const USUAL_LIMITS: Limits = Limits {
-    patience: 8,
-    retries: 0,
-    max_commits: MAX_COMMITS,
-    depth: USUAL_DEPTH,
-    restarts: 0,
-};
-
-/// What threads came to: their passes as one, and what their bodies gave, in their order.
-#[derive(Drop)]
-pub(crate) struct Served<T> {
-    pub pass: Pass,
-    pub values: Vec<T>,
+/// Runs the body as the thread of this number.
+fn serve<T: Drop, F: Fn(usize, &mut Client) -> T>(number: usize, seat: &mut Seat<T>, body: &F)
+    requires callable { F.IsAlwaysCallable body.now }
+    ensures { HasServed F.Fn body.now number seat.old seat.new }
+{
+    let value = body(number, &mut seat.client);
+    seat.value = Some(value);
 }
 
-/// Runs the body as this thread, with a client of the pass.
-fn serve<T: Drop, F: Fn(usize, &mut Client) -> T>(
-    alloc: Global,
-    words: &Arc<Words>,
-    pass: Pass,
-    number: usize,
-    tries: u64,
+/// Runs the body in a thread for each seat.
+fn serve_each<R: Threads + Sync, T: Send + Drop, F: Fn(usize, &mut Client) -> T + Sync>(
+    rt: &R,
+    seats: &mut [Seat<T>],
     body: &F,
-) -> Result<Served<T>, Lost>
-    requires new { IsNew words.now.value pass }
+)
+    requires some { 0 < length seats.old }
     requires callable { F.IsAlwaysCallable body.now }
     requires keeps { KeepsWords F.Fn body.now }
-    ensures { IfOk result (λ s. AreServed F.Fn body.now words.now.value (view_of pass).base tries number 1 s.values.items s.pass) }
+    ensures { (words : _) (base : _) (tries : _) → AllNew words base tries seats.old → AreServed F.Fn body.now words base tries 0 seats.new }
 {
-    let arena = Arena::new(alloc, 0)?;
-    let Ok(thread) = Thread::new(alloc, &**words, pass, arena, USUAL_LIMITS) else {
-        return Err(Lost::Memory);
+    let threads = seats.len();
+    for_each_mut(
+        rt,
+        seats,
+        threads,
+        &|number: usize, seat: &mut Seat<T>|
+            requires { F.IsAlwaysCallable body.now }
+            ensures { HasServed F.Fn body.entry.now number seat.entry.now seat.exit.now }
+        { serve(number, seat, body) },
+    );
+}
+
+/// Joins the pass of a thread that has ended to this one, and gives what its body gave.
+fn take_in<T: Drop>(words: &Words, pass: &mut Pass, seat: Seat<T>) -> T
+    requires own { Owns words.now pass.old }
+    requires here { seat.client.transaction.words ≡ words.now }
+    requires given { IsSome seat.value }
+    ensures own { Owns words.now pass.new }
+    ensures value { seat.value ≡ Some result }
+    ensures joined { Joined (view_of pass.old) (view_of seat.client.transaction.thread.pass) (view_of pass.new) }
+    ensures share { (view_of pass.old).share < (view_of pass.new).share }
+{
+    let Seat { client, value } = seat;
+    let (_, thread) = client.into_parts();
+    // told for its clause alone: a thread outside a transaction does not hold the clock
+    let _ = thread.clock();
+    let Ok((theirs, _)) = thread.into_parts() else {
+        unreachable!()
     };
-    let mut client = Client::new(Arc::try_clone(words)?, thread, tries);
-    let value = body(number, &mut client);
-    let (_words, thread) = client.into_parts();
-    let Ok((pass, _arena)) = thread.into_parts() else {
-        return Err(Lost::Kept);
-    };
-    let served = alone(alloc, pass, value)?;
-    Ok(served)
+    words.join(pass, theirs);
+    let Some(value) = value else { unreachable!() };
+    value
 }
 
-/// What one thread came to.
-fn alone<T: Drop>(alloc: Global, pass: Pass, value: T) -> Result<Served<T>, Lost>
-    ensures pass { IfOk result (λ s. s.pass ≡ pass) }
-    ensures values { IfOk result (λ s. s.values.items ≡ value ∷ []) }
-{
-    let mut values = Vec::new(alloc);
-    match values.push(value) {
-        Ok(()) => Ok(Served { pass, values }),
-        Err(_) => Err(Lost::Memory),
-    }
-}
-
-/// What some threads came to, and those after them.
-fn joined<T: Drop>(words: &Words, own: Served<T>, mut rest: Served<T>) -> Result<Served<T>, Lost>
-    requires own { Owns words.now own.pass × Owns words.now rest.pass }
-    requires idle { ((view_of own.pass).holds ≡ false) × ((view_of rest.pass).holds ≡ false) }
-    ensures own { IfOk result (λ s. Owns words.now s.pass) }
-    ensures idle { IfOk result (λ s. (view_of s.pass).holds ≡ false) }
-    ensures mine { IfOk result (λ s. (view_of s.pass).mine ≡ (view_of own.pass).mine ++ (view_of rest.pass).mine) }
-    ensures first { IfOk result (λ s. StartsWith (view_of s.pass).seen (view_of own.pass).seen) }
-    ensures second { IfOk result (λ s. StartsWith (view_of s.pass).seen (view_of rest.pass).seen) }
-    ensures values { IfOk result (λ s. s.values.items ≡ own.values.items ++ rest.values.items) }
-{
-    let Served {
-        mut pass,
-        mut values,
-    } = own;
-    words.join(&mut pass, rest.pass);
-    values.append(&mut rest.values)?;
-    Ok(Served { pass, values })
-}
-
-/// Runs the body as this thread, and as many more side by side with it as the count says.
+/// Runs the body on so many threads, each with a client, and joins their passes to this one. Gives what the bodies gave, in
+/// the order of the threads. Takes all memory first.
 pub(crate) fn serve_all<R: Threads + Sync, T: Send + Drop, F: Fn(usize, &mut Client) -> T + Sync>(
     rt: &R,
     alloc: Global,
     words: &Arc<Words>,
-    pass: Pass,
-    number: usize,
-    more: u8,
+    pass: &mut Pass,
+    threads: u8,
     tries: u64,
     body: &F,
-) -> Result<Served<T>, Lost>
-    requires new { IsNew words.now.value pass }
-    requires share { more < (view_of pass).share }
-    requires room { number + more < 2 ^ 64 }
+) -> Result<Vec<T>, AllocError>
+    requires first { IsFirst words.now.value pass.old }
+    requires some { 0 < threads }
+    requires few { threads ≤ MAX_THREADS }
     requires callable { F.IsAlwaysCallable body.now }
     requires keeps { KeepsWords F.Fn body.now }
-    ensures { IfOk result (λ s. AreServed F.Fn body.now words.now.value (view_of pass).base tries number (more + 1) s.values.items s.pass) }
+    ensures own { IfOk result (λ _. Owns words.now.value pass.new) }
+    ensures idle { IfOk result (λ _. (view_of pass.new).holds ≡ false) }
+    ensures whole { IfOk result (λ _. 128 ≤ (view_of pass.new).share) }
+    ensures base { IfOk result (λ _. (view_of pass.new).base ≡ (view_of pass.old).base) }
+    ensures run { IfOk result (λ values. AllHaveRun F.Fn body.now words.now.value (view_of pass.old).base tries threads values.items (view_of pass.new)) }
 {
-    if more == 0 {
-        return serve(alloc, words, pass, number, tries, body);
+    let mut values = Vec::with_capacity(alloc, usize::from(threads))?;
+    let mut seats = seats_for(alloc, words, pass, threads, tries)?;
+    serve_each(rt, seats.as_mut_slice(), body);
+    for seat in seats {
+        let value = take_in(&**words, pass, seat);
+        values.push_reserved(value);
     }
-    let mut rest = pass;
-    let own = words.split(&mut rest);
-    let (mine, theirs) = join(
-        rt,
-        move || -> Result<Served<T>, Lost>
-            requires { IsSync F.row × IsSend T.row × IsNew words.now.value own × F.IsAlwaysCallable body.now × KeepsWords F.Fn body.now }
-            ensures { IfOk result (λ s. AreServed F.Fn body.entry.now words.entry.now.value (view_of own).base tries number 1 s.values.items s.pass) }
-        { serve(alloc, words, own, number, tries, body) },
-        move || -> Result<Served<T>, Lost>
-            requires { IsSync R.row × IsSync F.row × IsSend T.row × IsNew words.now.value rest × (0 < more) × (more < (view_of rest).share + 1) × (number + more < 2 ^ 64) × F.IsAlwaysCallable body.now × KeepsWords F.Fn body.now }
-            ensures { IfOk result (λ s. AreServed F.Fn body.entry.now words.entry.now.value (view_of rest).base tries (number + 1) more s.values.items s.pass) }
-        { serve_all(rt, alloc, words, rest, number + 1, more - 1, tries, body) },
-    );
-    let served = joined(words, mine?, theirs?)?;
-    Ok(served)
+    Ok(values)
 }
