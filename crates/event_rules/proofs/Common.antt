@@ -104,7 +104,7 @@ pub use Rattle.world_rules.specs.LocalWork.{Acts, ActsOn, calls, finishes, SameA
 pub use Rattle.world_rules.specs.LogAgreement.{AreLaid, Loaded, Sees}
 pub use Rattle.world_rules.specs.Memories.{words_at}
 pub use Rattle.world_rules.specs.PlayerRooms.{EndsWithin, going_room, TellsRoom}
-pub use Rattle.world_rules.specs.Progress.{asks_further, is_step, TellsCall, TellsCalls}
+pub use Rattle.world_rules.specs.Progress.{asks_further, is_step, TellsCall, TellsEvent}
 pub use Rattle.world_rules.specs.Records.{Asks as AsksOf, ReadsAt, Records, status_after, TakesTo, Tells, told}
 pub use Rattle.world_rules.specs.Rows.{AreEnded, AreFrom, AreOpen, AreUnfinished, Rows}
 pub use Rattle.world_rules.specs.Runs.{IsBeforeTry, IsFed, IsInTry, IsRun, RunsFrom, StillRuns}

@@ -18,7 +18,7 @@ pub use Rattle.event_rules.proofs.Engines.Intakes.{due, now}
 pub use Rattle.event_rules.proofs.Engines.PlayerLaws.{settles}
 pub use Rattle.event_rules.proofs.Engines.SoundSteps.{answer_falls, call_taken, calling, IsStepping, mid_step, rests, same, step_acts, step_clocks, step_lasts, step_taken, stepping, takes_in}
 pub use Rattle.event_rules.proofs.Engines.TiedEngines.{idle_still, opening_settled, tied_undone}
-pub use Rattle.event_rules.proofs.Events.EventWorlds.{calls_after, goes_after, less_after, opaque_as, tells_after, tied_as, world_after}
+pub use Rattle.event_rules.proofs.Events.EventWorlds.{goes_after, less_after, opaque_as, tells_after, tied_as, told_after, world_after}
 pub use Rattle.event_rules.proofs.Events.SoundOthers.{actors_joined, joined_place, told_others, told_sound}
 pub use Rattle.event_rules.proofs.Events.WorkChains.{call_worked, finish_worked, starve_worked, work_more, work_none}
 pub use Rattle.world_rules.proofs.Events.WorldEvents.{call_falls, call_left_at, counted_one, counts_both, ended_there, events_both, goes_no_more, goes_nowhere, leaves_on, LeavesLessSoFar, LeavesNoMore, led_on, mapped_none, mapped_some, no_more_first, no_more_on, not_there, noted, noted_all, noted_counts, opening_both, opening_same, over_less, run_falls, run_left_at, takes_both, takes_one, told_event, waits_still, whole_at}

@@ -63,7 +63,7 @@ impl<P: Player> World<P> {
     ghost use Rattle.world_rules.specs.Headline.{AreOpaque};
     ghost use Rattle.world_rules.specs.Tied.{AreTied};
     ghost use Rattle.world_rules.specs.WorldEvents.{Goes};
-    ghost use Rattle.world_rules.specs.Progress.{LeavesLess, TellsCall, TellsCalls};
+    ghost use Rattle.world_rules.specs.Progress.{LeavesLess, TellsCall, TellsEvent};
 
     /// A world over this memory, with the clock at 0. Each actor's local work up to its first operation is done.
     pub fn new(alloc: Global, setup: Setup, players: Vec<P>) -> Result<Self, AllocError>
@@ -176,8 +176,7 @@ impl<P: Player> World<P> {
     pub fn event_told(&mut self, alloc: Global, actor: u8) -> Told
         requires { IsSome (waits_at self.old actor) }
         ensures goes { Goes P.Player actor self.old (event_result (ending_at self.new actor)) self.new }
-        ensures tells { TellsCall P.Player actor result.goes_on self.old self.new }
-        ensures calls { TellsCalls P.Player actor result.calls self.old self.new }
+        ensures tells { TellsEvent P.Player actor result.goes_on result.calls self.old self.new }
         ensures less { LeavesLess P.Player actor result.goes_on self.old self.new }
     {
         let acting = &mut self.actors[actor as usize];

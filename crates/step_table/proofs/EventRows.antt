@@ -4,7 +4,7 @@ use Rattle.step_table.proofs.Common.{LeavesLessSoFar, Row, Rules, SoMany, Step, 
 use Rattle.std.specs.Option.{option_map}
 use Rattle.world_rules.specs.declared.operation.Operation.{Operation}
 use Rattle.world_rules.specs.Cells.{found}
-use Rattle.world_rules.specs.Progress.{TellsCall, TellsCalls}
+use Rattle.world_rules.specs.Progress.{TellsEvent}
 use Rattle.world_rules.specs.Sound.{IsNoMore}
 use Rattle.world_rules.specs.WorldEvents.{Goes}
 use Rattle.world_rules.proofs.Events.Measures.{same_less}
@@ -36,10 +36,10 @@ module _ {P : Type 0} (rules : Rules P) (old new : World P) (thread : ℕ) where
       ending = ending_at new thread;
     }
 
-    pub is_row : Some o ≡ operation_at old thread → Goes rules thread old (event_result (ending_at new thread)) new → TellsCall rules thread goes_on old new → TellsCalls rules thread calls old new
+    pub is_row : Some o ≡ operation_at old thread → Goes rules thread old (event_result (ending_at new thread)) new → TellsEvent rules thread goes_on calls old new
         → had ≡ option_map (λ (a : Attempt). length a.calls.list) (attempt_at old thread) → first ≡ length old.attempts.ended → number ≡ new.events → clock ≡ new.cells.clock
         → SoMany rules thread 1 old (row ∷ []) new
-    is_row next goes tells told had_is first_is number_is clock_is = (
+    is_row next goes told had_is first_is number_is clock_is = (
       record {
         leads = (
           new,
@@ -48,9 +48,8 @@ module _ {P : Type 0} (rules : Rules P) (old new : World P) (thread : ℕ) where
             goes = goes;
             number = number_is;
             clock = clock_is;
-            goes_on = tells.before;
             had = had_is;
-            calls = told;
+            told = told;
             ended = ap (λ (n : ℕ). drop n new.attempts.ended) first_is;
             active = refl;
             ending = refl;

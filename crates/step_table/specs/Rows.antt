@@ -1,7 +1,7 @@
 -- The events of a world as rows, and which rows a schedule gives.
 use Rattle.std.specs.Prelude.{◌≡◌, ◌⊎◌, ℕ, ◌<◌, ◌≤◌, Bool, List, [], ◌∷◌, ◌++◌, drop, length, Option, Some, IsSome}
 use Rattle.std.specs.Option.{option_map}
-use Rattle.world_rules.specs.Progress.{TellsCalls, goes_on_at}
+use Rattle.world_rules.specs.Progress.{TellsEvent}
 use Rattle.world_rules.specs.World.{World, attempt_at, ending_at, event_result, operation_at}
 use Rattle.world_rules.specs.WorldEvents.{Goes}
 use Rattle.script_program.specs.declared.schedule.Item.{Item}
@@ -33,9 +33,8 @@ module _ {P : Type 0} (rules : Rules P) where
     pub goes : Goes rules row.event.thread old (event_result (ending_at new row.event.thread)) new
     pub number : row.event.number ≡ new.events
     pub clock : row.event.clock ≡ new.cells.clock
-    pub goes_on : row.goes_on ≡ goes_on_at old row.event.thread
     pub had : row.had ≡ option_map (λ a. length a.calls.list) (attempt_at old row.event.thread)
-    pub calls : TellsCalls rules row.event.thread row.calls old new
+    pub told : TellsEvent rules row.event.thread row.goes_on row.calls old new
     pub ended : row.ended ≡ drop (length old.attempts.ended) new.attempts.ended
     pub active : row.active ≡ attempt_at new row.event.thread
     pub ending : row.ending ≡ ending_at new row.event.thread

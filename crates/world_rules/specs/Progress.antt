@@ -37,14 +37,16 @@ module _ {P : Type 0} (rules : Rules P) where
     pub before : goes_on ≡ goes_on_at old actor
     pub event : (a a' : Actor P) → slice_get old.actors actor ≡ Some a → (event : IsEvent rules old.cells old.attempts a new.cells new.attempts a') → goes_on ≡ is_step event.takes.what
 
-  -- What is told of the calls of its open attempt: how many of them had a reply as the event's step was done, before its local work.
-  pub record TellsCalls (actor calls : ℕ) (old new : World P) : Type 0 where
+  -- More is told of the event, by one reading of it: whether its call goes on, and how many calls of the open attempt had a reply as its step was done, before its local work.
+  pub record TellsEvent (actor : ℕ) (goes_on : Bool) (calls : ℕ) (old new : World P) : Type 0 where
+    pub call : TellsCall actor goes_on old new
     pub was : Actor P
     pub now : Actor P
     pub there : slice_get old.actors actor ≡ Some was
     pub here : slice_get new.actors actor ≡ Some now
     pub event : IsEvent rules old.cells old.attempts was new.cells new.attempts now
-    pub told : calls ≡ calls_of event.stepped
+    pub asks : goes_on ≡ is_step event.takes.what
+    pub replied : calls ≡ calls_of event.stepped
 
   -- ## How much is left
 

@@ -1,6 +1,6 @@
 -- An actor of a world took an event, a step and the local work that follows it: the world that it leaves, and that the event says so.
 use Rattle.std.proofs.Common.{◌≡◌, ℕ, Bool, true, false, List, length-set, slice_get, slice_set, Option, None, Some, IsSome, refl, sym, ap, subst, ◌∙◌, arith}
-use Rattle.event_rules.proofs.Common.{Actor, ActorGoes, AreOpaque, AreTied, Cells, ClocksOn, Continues, Finished, Goes, HasLess, HasRead, HasStepped, HasWorked, IsEvent, IsWorld, KeepsOthers, Obeys, Rows, Rules, TellsCall, TellsCalls, Tries, World, asks_further, calls_of, continues_on, ending_at, ending_of, event_less, event_result, going_in, is_ready, is_waiting, lawful_at, observed, others_twice, prior_of, same_Some, slice_get-set_same, slice_get_within, slice_index_or, waiting_step, waits_at}
+use Rattle.event_rules.proofs.Common.{Actor, ActorGoes, AreOpaque, AreTied, Cells, ClocksOn, Continues, Finished, Goes, HasLess, HasRead, HasStepped, HasWorked, IsEvent, IsWorld, KeepsOthers, Obeys, Rows, Rules, TellsCall, TellsEvent, Tries, World, asks_further, calls_of, continues_on, ending_at, ending_of, event_less, event_result, going_in, is_ready, is_step, is_waiting, lawful_at, observed, others_twice, prior_of, same_Some, slice_get-set_same, slice_get_within, slice_index_or, waiting_step, waits_at}
 use Rattle.event_rules.proofs.Events.FurtherSteps.{asks_as, waits_on}
 use Rattle.world_rules.proofs.Events.WorldEvents.{no_fault, told_event, waits_not_ended}
 use Rattle.event_rules.proofs.Runs.Others.{has_read, running_after, world_opaque, world_tied}
@@ -96,23 +96,33 @@ module _ {P : Type 0} {rules : Rules P} (laws : Obeys rules) {w v : World P} (is
       let last : a2 ≡ b = same_Some _ _ (sym (slice_get-set_same w.actors i a2 (slice_get_within w.actors i got here)) ∙ there') in
       subst (λ (z : Actor P). HasLess rules on z b) first (subst (HasLess rules on got) last (event_less rules got a1 a2 (going_in is i got some read).1 x.goes_on x.falls (λ e. (y.still e).0) y.less on on_is))
 
-  pub tells_after : (on : Bool) → is_waiting a1.status ≡ on → (events : ℕ) → TellsCall rules i on v (led w i cells' r2 a2 events)
-  tells_after on on_is events =
-      let asked : on ≡ asks_further w.cells got.engine (waiting_step got.status) = sym on_is ∙ (waits_on x.takes ∙ sym (asks_as x.takes)) in
-      subst (λ (z : World P). TellsCall rules i on z (led w i cells' r2 a2 events)) is (record {
-        before = asked ∙ sym (ap (λ (o : Option (Actor P)). option_map_or (λ a. asks_further w.cells a.engine (waiting_step a.status)) o false) here);
-        event = λ a a' there e. asked ∙ (ap (λ (z : Actor P). asks_further w.cells z.engine (waiting_step z.status)) (same_Some _ _ (sym here ∙ there)) ∙ asks_as e.takes);
-      })
+  -- whether its call goes on
+  module _ (on : Bool) (on_is : is_waiting a1.status ≡ on) (events : ℕ) where
+    asked : on ≡ is_step x.takes.what
+    asked = sym on_is ∙ waits_on x.takes
 
-  -- the calls of its open attempt are those that had a reply once its step was done
-  pub calls_after : (calls : ℕ) → calls ≡ calls_of a1 → (events : ℕ) → TellsCalls rules i calls v (led w i cells' r2 a2 events)
-  unfolding event event_then
-  calls_after calls told events =
-      subst (λ (z : World P). TellsCalls rules i calls z (led w i cells' r2 a2 events)) is (record {
-        was = got;
-        now = a2;
-        there = here;
-        here = slice_get-set_same w.actors i a2 (slice_get_within w.actors i got here);
-        event = (event events).0;
-        told = told;
-      })
+    told_here : TellsCall rules i on w (led w i cells' r2 a2 events)
+    told_here =
+        let further : on ≡ asks_further w.cells got.engine (waiting_step got.status) = asked ∙ sym (asks_as x.takes) in
+        record {
+          before = further ∙ sym (ap (λ (o : Option (Actor P)). option_map_or (λ a. asks_further w.cells a.engine (waiting_step a.status)) o false) here);
+          event = λ a a' there e. further ∙ (ap (λ (z : Actor P). asks_further w.cells z.engine (waiting_step z.status)) (same_Some _ _ (sym here ∙ there)) ∙ asks_as e.takes);
+        }
+
+    pub tells_after : TellsCall rules i on v (led w i cells' r2 a2 events)
+    tells_after = subst (λ (z : World P). TellsCall rules i on z (led w i cells' r2 a2 events)) is told_here
+
+    -- and how many calls of its open attempt had a reply once its step was done
+    pub told_after : (calls : ℕ) → calls ≡ calls_of a1 → TellsEvent rules i on calls v (led w i cells' r2 a2 events)
+    unfolding event event_then
+    told_after calls replied =
+        subst (λ (z : World P). TellsEvent rules i on calls z (led w i cells' r2 a2 events)) is (record {
+          call = told_here;
+          was = got;
+          now = a2;
+          there = here;
+          here = slice_get-set_same w.actors i a2 (slice_get_within w.actors i got here);
+          event = (event events).0;
+          asks = asked;
+          replied = replied;
+        })

@@ -9,5 +9,5 @@ came_of-came-requires g c = ended_within g.P.Player c.args.world.now c.event_tol
 pub returns-clause-gathers : goal.returns-clause-gathers
 returns-clause-gathers g c =
     let one = is_row g.P.Player c.args.world.now c.event_told-told.new.self c.args.thread c.next_of-operation.result c.event_told-told.result.goes_on c.calls_of-had.result c.ended-first.result c.event_told-told.result.calls c.events-number.result c.clock-clock.result
-    c.next_of-operation.ensures c.event_told-told.ensures.goes c.event_told-told.ensures.tells c.event_told-told.ensures.calls c.calls_of-had.ensures c.ended-first.ensures.value c.events-number.ensures.value c.clock-clock.ensures.value in
+    c.next_of-operation.ensures c.event_told-told.ensures.goes c.event_told-told.ensures.tells c.calls_of-had.ensures c.ended-first.ensures.value c.events-number.ensures.value c.clock-clock.ensures.value in
     gathered_one c.args.view.now (SoMany g.P.Player c.args.thread 1) c.args.world.now c.event_told-told.new.self _ _ _ one c.is_some-in_attempt.result c.calls_after-calls.result c.came_of-came.result c.is_some-in_attempt.ensures c.calls_after-calls.ensures c.came_of-came.ensures c.in_ok-keep.ensures

@@ -1,4 +1,4 @@
-use Rattle.norec_world.proofs.{calls_after, goes_after, going_in, less_after, tells_after, world_after, world_of, world_tied, sym}
+use Rattle.norec_world.proofs.{goes_after, going_in, less_after, told_after, world_after, world_of, world_tied, sym}
 use Rattle.norec_world.proofs.world.World.event_told.Goals as goal
 
 pub step-requires-clause-sound : goal.step-requires-clause-sound
@@ -26,8 +26,4 @@ returns-clause-less g c =
 
 pub returns-clause-tells : goal.returns-clause-tells
 returns-clause-tells g c =
-    tells_after g.met.P.Player.laws c.self.view_is c.self.invariant c.args.actor c.index_mut-acting.result.now c.requires c.index_mut-acting.ensures.value c.step.ensures c.work.ensures.worked c.work.ensures.done c.waits-goes_on.result (sym c.waits-goes_on.ensures) c.saturating_add-self-inside.result
-
-pub returns-clause-calls : goal.returns-clause-calls
-returns-clause-calls g c =
-    calls_after g.met.P.Player.laws c.self.view_is c.self.invariant c.args.actor c.index_mut-acting.result.now c.requires c.index_mut-acting.ensures.value c.step.ensures c.work.ensures.worked c.work.ensures.done c.replies-calls.result c.replies-calls.ensures c.saturating_add-self-inside.result
+    told_after g.met.P.Player.laws c.self.view_is c.self.invariant c.args.actor c.index_mut-acting.result.now c.requires c.index_mut-acting.ensures.value c.step.ensures c.work.ensures.worked c.work.ensures.done c.waits-goes_on.result (sym c.waits-goes_on.ensures) c.saturating_add-self-inside.result c.replies-calls.result c.replies-calls.ensures
