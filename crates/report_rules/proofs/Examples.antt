@@ -72,6 +72,7 @@ idle words start own stands fresh free = record {
       thread = start;
       stops = (refl, refl, refl);
       attempts = refl;
+      begun = tt;
       pass = (refl, free);
     };
   };

@@ -1,10 +1,9 @@
 //! A whole run.
 
-ghost use Rattle.std.specs.Prelude.{◌≡◌, ◌^◌, ◌<◌, ◌≤◌, false};
+ghost use Rattle.std.specs.Prelude.{◌≡◌, ◌≤◌, false};
 ghost use Rattle.itm_types.specs.declared.limits.TheConstants.{MAX_RETRIES};
 ghost use Rattle.norec_core.specs.Core.{in_transaction};
-ghost use Rattle.shared_words.specs.Passes.{Owns, view_of};
-ghost use Rattle.call_rules.specs.Ties.{Stands};
+ghost use Rattle.shared_words.specs.Passes.{Owns};
 ghost use Rattle.worker_rules.specs.Works.{Works};
 
 use crate::gate::Gate;
@@ -35,13 +34,14 @@ pub fn work<P: Player, G: Gate, A: ActionSink>(
     sink: &A,
 ) -> Worked
     requires own { Owns words.now thread.pass }
-    requires stands { Stands (view_of thread.pass) thread.engine }
     requires outside { in_transaction thread.engine ≡ false }
     requires depth { P.depth player ≡ 0 }
-    requires limit { thread.engine.restarts < 2 ^ 32 }
     requires few { retries ≤ MAX_RETRIES }
     ensures { Works P.Player words.now thread player number retries G.answers result }
 {
+    // (what holds of every thread: it stands as its pass's view says, and the number of its restarts fits 32 bits)
+    let _clock = thread.clock();
+    let _limit = thread.restarts();
     let mut worker = Worker {
         run: PlayerRun::new(alloc, number, retries, player),
         thread,

@@ -12,3 +12,4 @@ pub mod Stopped
 pub mod Shortages
 pub mod Ends
 pub mod Begins
+pub mod BegunAttempts

@@ -1,7 +1,8 @@
 -- A player's run on a thread as a row of calls, each with its answer and with what the answer made of the run.
-use Rattle.std.specs.Prelude.{◌≡◌, ◌⊎◌, ℕ, zero, suc, Bool, true, false, List, ◌++◌, Option, None, Some, unwrap_or}
+use Rattle.std.specs.Prelude.{◌≡◌, ◌⊎◌, ℕ, zero, suc, Bool, true, false, List, [], ◌∷◌, ◌++◌, Option, None, Some, unwrap_or}
 use Rattle.itm_types.specs.Calls.{is_begin}
 use Rattle.itm_types.specs.declared.call.Call.{Call}
+use Rattle.itm_types.specs.declared.call.Call.TheVariants.{Begin}
 use Rattle.norec_core.specs.declared.answer.Answer.{Answer}
 use Rattle.norec_core.specs.Core.{irrevocable_room}
 use Rattle.norec_core.specs.Undoing.{after_undoing}
@@ -15,9 +16,18 @@ use Rattle.tx_player.specs.Rules.{Rules}
 use Rattle.tx_runs.specs.declared.ending.End.{End}
 use Rattle.tx_runs.specs.declared.ending.End.TheVariants.{Finished, GaveUp, NoMemory}
 use Rattle.tx_runs.specs.declared.savepoint.Savepoint.{Savepoint}
-use Rattle.tx_runs.specs.Tallies.{outside, within, Tally, begins_again, came, over_as, took_in, stand_of}
+use Rattle.tx_runs.specs.Tallies.{outside, within, Tally, begins_again, begun, came, over_as, took_in, stand_of}
 use Rattle.worker_rules.specs.Accounts.{Account, account_after, tally_in}
 use Rattle.worker_rules.specs.Gates.{Gating, IsLet, call_number}
+
+-- an attempt as its begin was called
+abbrev pub as_begun : Attempt → Attempt
+as_begun x = begun x.thread x.nth x.began x.props x.arena 0
+
+-- P holds of each attempt as its begin was called
+abbrev pub AllBegun : (Attempt → Type 0) → List Attempt → Type 0
+AllBegun P [] = Unit {0}
+AllBegun P (x ∷ rest) = P (as_begun x) × AllBegun P rest
 
 module _ {P : Type 0} (rules : Rules P) where
   -- memory was refused to the player's next call, which begins a block where none is open. What was open is given up, unless it is irrevocable
@@ -40,6 +50,13 @@ module _ {P : Type 0} (rules : Rules P) where
     pub account : a' ≡ a
     pub thread : s' ≡ s
 
+  -- the player's next call began the attempt: no block was open, and it begins with just as many commits as the thread's pass knew of, in this try of its block and with the thread's arena
+  pub record IsBegunBy (number : ℕ) (a : Account P) (s : Standing) (x : Attempt) : Type 0 where
+    pub stage : a.stage ≡ outside
+    pub room : ℕ
+    pub asks : rules.next_call a.player ≡ Some (Begin x.props room)
+    pub is : x ≡ begun number a.nth (commits_known (view_of s.pass)) x.props s.engine.arena 0
+
 module _ {P : Type 0} (words : Words) (rules : Rules P) (number retries : ℕ) where
   -- the tally as its call comes to this thread: an attempt begins with the commits that its pass knows of
   abbrev pub asked : Standing → Account P → Call → Tally P
@@ -58,6 +75,11 @@ module _ {P : Type 0} (words : Words) (rules : Rules P) (number retries : ℕ) w
   abbrev pub HasMade : Gating → ℕ → Account P → Standing → Account P → Standing → Type 0
   HasMade gate zero a s a' s' = (a' ≡ a) × (s' ≡ s)
   HasMade gate (suc n) a s a' s' = (last : Account P) × (then : Standing) × HasMade gate n a s last then × IsMade last then None a' s' × IsLet gate number (call_number n) then
+
+  -- one of these calls began the attempt
+  abbrev pub IsBegunIn : (gate : Gating) (n : ℕ) (a : Account P) (s : Standing) (a' : Account P) (s' : Standing) → HasMade gate n a s a' s' → Attempt → Type 0
+  IsBegunIn gate zero a s a' s' made x = ⊥
+  IsBegunIn gate (suc n) a s a' s' made x = IsBegunBy rules number made.0 made.1 x ⊎ IsBegunIn gate n a s made.0 made.1 made.2 x
 
   -- how the run ends where the player stands like this: it has no more calls; the gate is shut; an answer ends it; memory was refused
   abbrev pub StopsAs : Bool → End → Account P → Standing → Account P → Standing → Type 0

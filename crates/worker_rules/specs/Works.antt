@@ -18,7 +18,7 @@ use Rattle.tx_player.specs.Rules.{Rules}
 use Rattle.worker_rules.specs.Worked.{Worked}
 use Rattle.tx_runs.specs.Tallies.{stand_of}
 use Rattle.worker_rules.specs.Accounts.{Account, first_account, told}
-use Rattle.worker_rules.specs.Calls.{HasMade, StopsAt}
+use Rattle.worker_rules.specs.Calls.{AllBegun, HasMade, IsBegunIn, StopsAt}
 use Rattle.worker_rules.specs.Gates.{Gating, call_number}
 use Rattle.worker_rules.specs.Positions.{AreFew, bytes_at, positions}
 use Rattle.worker_rules.specs.Progress.{Course, HasRun, now_at}
@@ -108,6 +108,7 @@ module _ {P : Type 0} (rules : Rules P) where
     pub thread : Standing
     pub stops : StopsAt words rules number retries gate (call_number calls) w.end account standing left thread
     pub attempts : w.attempts ≡ told left (stand_of thread.engine)  -- just these attempts are told
+    pub begun : AllBegun (IsBegunIn words rules number retries gate calls (first_account player) start account standing made) w.attempts  -- this follows: each began with just the commits that its thread knew of as its begin was called
     pub pass : Parts thread w.pass
 
   -- a player's run on a thread

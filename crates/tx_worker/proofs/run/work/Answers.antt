@@ -1,13 +1,14 @@
-use Rattle.std.proofs.Common.{◌≡◌, ◌<◌, ◌≤◌, ◌+◌, ℕ, suc, Bool, None, refl, sym, ap, subst, ◌∙◌, arith}
+use Rattle.std.proofs.Common.{◌≡◌, ◌<◌, ◌≤◌, ◌+◌, ◌^◌, ℕ, suc, Bool, None, refl, sym, ap, subst, ◌∙◌, arith}
 use Rattle.norec_core.specs.Core.{in_transaction}
 use Rattle.tx_runs.{specs.declared.player_run.PlayerRun.PlayerRun, specs.Nesting.whole, specs.Ranks.rank, specs.Ranks.restarts_left}
 use Rattle.worker_rules.specs.Worker.{Worker}
-use Rattle.worker_rules.specs.Accounts.{account_of}
-use Rattle.worker_rules.specs.Calls.{IsMade, StopsAs, StopsAt}
+use Rattle.worker_rules.specs.Accounts.{account_of, first_account}
+use Rattle.worker_rules.specs.Calls.{AllBegun, IsBegunIn, IsMade, StopsAs, StopsAt}
 use Rattle.worker_rules.specs.Gates.{IsLet, call_number}
 use Rattle.worker_rules.specs.Workers.{Bounds, bounds_of}
 use Rattle.worker_rules.specs.Works.{course_of}
 use Rattle.worker_rules.proofs.Laws.Begins.{begins_bound, begins_works}
+use Rattle.worker_rules.proofs.Laws.BegunAttempts.{told_begun}
 use Rattle.worker_rules.proofs.Laws.Ends.{finished}
 use Rattle.tx_worker.proofs.run.work.Goals as goal
 
@@ -18,14 +19,16 @@ counted n before now b e = omega arith
 pub loop-end-init : goal.loop-end-init
 loop-end-init g c =
     let r = c.requires in
-    let first = begins_works g.P.Player c.args.words.now c.args.thread c.args.player c.args.number c.args.retries r.own r.stands r.outside r.depth r.limit r.few c.new-2.result c.new-2.ensures.items
+    let stands = c.clock-clock.ensures.stands in
+    let limit : c.args.thread.engine.restarts < 2 ^ 32 = omega (arith, c.restarts-limit.ensures) in
+    let first = begins_works g.P.Player c.args.words.now c.args.thread c.args.player c.args.number c.args.retries r.own stands r.outside r.depth limit r.few c.new-2.result c.new-2.ensures.items
     (record { run = c.new.result; thread = c.args.thread; ended = c.new-2.result; calls = 0 }) (ap (λ (run : PlayerRun g.row.P.Denot). record { run = run; thread = c.args.thread; ended = c.new-2.result; calls = 0 }) c.new.ensures) in
     record {
       works = first.0;
       made = (0, (first.1, refl), refl);
       bound =
           (subst (λ (run : PlayerRun g.row.P.Denot). whole g.P.Player (in_transaction c.args.thread.engine) run.player ≤ g.P.Player.calls_left c.args.player) (sym c.new.ensures)
-          (begins_bound g.P.Player c.args.words.now c.args.thread c.args.player c.args.number c.args.retries r.own r.stands r.outside r.depth r.limit r.few));
+          (begins_bound g.P.Player c.args.words.now c.args.thread c.args.player c.args.number c.args.retries r.own stands r.outside r.depth limit r.few));
       number = ap (λ (run : PlayerRun g.row.P.Denot). run.thread) c.new.ensures;
       retries = ap (λ (run : PlayerRun g.row.P.Denot). run.retries) c.new.ensures;
     }
@@ -64,6 +67,9 @@ returns-in-Some g c =
         thread = c.call_next.new.self.thread;
         stops = stops;
         attempts = e.attempts ∙ x.told_is;
+        begun =
+            subst (AllBegun (IsBegunIn c.args.words.now g.P.Player c.args.number c.args.retries g.G.Gate.answers old.made.0 (first_account c.args.player) c.args.thread (account_of w) w.thread old.made.1)) (sym (e.attempts ∙ x.told_is))
+            (told_begun c.args.words.now g.P.Player c.args.number c.args.retries g.G.Gate.answers c.args.player c.args.thread old.made.0 (account_of w) w.thread old.made.1 c.finish.result.end x.left c.call_next.new.self.thread stops);
         pass = e.pass;
       };
       finished = finished g.met.P.Player.laws c.args.words.now course c.args.thread.engine.max_commits shuts (account_of w) w.thread old.works.running old.works.same.own old.works.same.stands old.works.same.over (ap (λ (b : Bounds). b.max_commits) old.works.same.bounds)
