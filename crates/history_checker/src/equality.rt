@@ -2,7 +2,7 @@
 
 ghost use Rattle.std.proofs.Common.{rules, tests};
 
-use crate::verdict::{BadKind, Verdict};
+use crate::verdict::{BadKind, Fault, Spot, Verdict};
 use itm_types::ExactEq;
 
 impl ExactEq for BadKind {
@@ -10,5 +10,13 @@ impl ExactEq for BadKind {
 }
 
 impl ExactEq for Verdict {
+    ghost exact = { Prim.search (tests, rules) };
+}
+
+impl ExactEq for Fault {
+    ghost exact = { Prim.search (tests, rules) };
+}
+
+impl ExactEq for Spot {
     ghost exact = { Prim.search (tests, rules) };
 }
