@@ -5,3 +5,4 @@ pub mod KeptBoxes
 pub mod Comings
 pub mod Numbers
 pub mod Rejoined
+pub mod SameWords

@@ -37,6 +37,10 @@ abbrev pub HoldsClient : (Client → Type 0) → Option Kept → Type 0
 HoldsClient P None = ⊥
 HoldsClient P (Some k) = KeepsClient P k
 
+-- both hold a thread, over the same words
+abbrev pub StaysOver : Option Kept → Option Kept → Type 0
+StaysOver old new = HoldsClient (λ c. HoldsClient (λ d. arc_value d.words ≡ arc_value c.words) new) old
+
 -- ## What every call asks of a handle, and leaves
 
 -- the handle holds open words

@@ -22,8 +22,9 @@ pub record IsOpened (cells : Cells) (r : Root) : Type 0 where
   pub count : cells_of (arc_value r.words) ≡ length cells.items
   pub place : place_of (arc_value r.words) ≡ cells.at
 
--- the words have one seat less, and the thread has it: it knows of the commits that the words knew of, and is outside a transaction
+-- the words are the same and have one seat less, and the thread has it: it is over them, knows of the commits that the words knew of, and is outside a transaction
 pub record Enters (old : Root) (new : Root) (c : Client) : Type 0 where
+  pub kept : arc_value new.words ≡ arc_value old.words
   pub tied : IsTied c
   pub words : arc_value c.words ≡ arc_value old.words
   pub left : view_of new.pass ≡ cut_left (view_of old.pass)

@@ -13,3 +13,4 @@ mod number;
 mod parts;
 mod root;
 pub mod seats;
+pub mod whole_run;
