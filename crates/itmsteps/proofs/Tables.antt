@@ -60,4 +60,4 @@ shows_as R R' text a b u w (Err x) (Err y) e p = p
 pub tabled : (view : View) (items : List Item) (a b : World Thread) (o n : Option (List ℕ)) (s : Result (Unit {0}) (Failure AsmFault))
     → Shows (ScheduleRows thread_rules items) (ScheduleFirst thread_rules items) (table_text view) a b o n s → IfErr s (λ failure. failure ≡ Writing) → Tells false view items a b o n s
 tabled view items a b o n (Ok x) p e = p
-tabled view items a b o n (Err f) p e = subst (λ (f : Failure AsmFault). Tells false view items a b o n (Err f)) (sym e) p
+tabled view items a b o n (Err f) (rows, count, first, stops, p) e = subst (λ (f : Failure AsmFault). Tells false view items a b o n (Err f)) (sym e) (rows, count, first, p)

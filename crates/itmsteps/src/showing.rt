@@ -81,7 +81,7 @@ fn write_picture<W: Write>(
     put_drawing(columns, marks, writer).map_err(|_| Failure::Writing)
 }
 
-/// Takes the events of the items, and draws them then.
+/// Takes the events of the items, and draws them then. Where memory is refused for what is drawn of one, it is the last.
 fn draw<W: Write>(
     alloc: Global,
     world: &mut World<Script<'_>>,
@@ -92,7 +92,8 @@ fn draw<W: Write>(
     requires { All (λ i. thread_of i < length world.old.actors) items.now }
     ensures { Tells true view.now items.now world.old world.new (W.contents writer.old) (W.contents writer.new) result }
 {
-    let marks = gather(alloc, world, items, view)?;
+    let mut marks = Vec::new(alloc);
+    gather(alloc, world, items, view, &mut marks)?;
     write_picture(view.columns.as_slice(), &marks, writer)
 }
 

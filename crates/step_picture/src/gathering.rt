@@ -1,12 +1,13 @@
 //! Worlds whose events are taken item by item, and what is drawn of them.
 
-ghost use Rattle.std.specs.Prelude.{◌≡◌, ◌<◌, ◌++◌, [], All, IfOk, IsSome, OnOk, false, length};
+ghost use Rattle.std.specs.Prelude.{◌≡◌, ◌<◌, ◌++◌, All, IfOk, IsSome, OnErr, OnOk, false, length, true};
 ghost use Rattle.world_rules.specs.Progress.{LeavesLess};
 ghost use Rattle.world_rules.specs.World.{waits_at};
 ghost use Rattle.script_program.specs.declared.schedule.Item.TheVariants.{Out, Take};
 ghost use Rattle.script_program.specs.Listing.{thread_of};
-ghost use Rattle.step_table.specs.Rows.{ItemRows, RowsOf, ScheduleRows, SoMany};
-ghost use Rattle.step_picture.specs.Gathered.{Gathered, Gathers};
+ghost use Rattle.step_table.specs.Rows.{ItemFirst, ItemRows, RowsOf, ScheduleFirst, ScheduleRows, SoMany};
+ghost use Rattle.step_table.specs.Table.{shows};
+ghost use Rattle.step_picture.specs.Gathered.{Gathers};
 ghost use Rattle.step_picture.specs.Marks.{kept};
 
 use crate::mark::Mark;
@@ -19,7 +20,8 @@ use tx_player::Player;
 
 /// Keeps what is drawn of an event that is shown.
 fn keep(view: &View, mark: Mark, marks: &mut Vec<Mark>) -> Result<(), AllocError>
-    ensures { OnOk result (marks.new.items ≡ marks.old.items ++ kept view.now mark) }
+    ensures kept { OnOk result (marks.new.items ≡ marks.old.items ++ kept view.now mark) }
+    ensures refused { OnErr result ((shows view.now mark.event ≡ true) × (marks.new.items ≡ marks.old.items)) }
 {
     if !shows(view, mark.event) {
         return Ok(());
@@ -28,7 +30,8 @@ fn keep(view: &View, mark: Mark, marks: &mut Vec<Mark>) -> Result<(), AllocError
     Ok(())
 }
 
-/// One event of the thread, and its mark; tells whether the same call goes on.
+/// One event of the thread, and its mark; tells whether the same call goes on. Where memory is refused for the mark, tells so;
+/// so do the functions below, which then take no further event.
 fn gather_event<P: Player>(
     alloc: Global,
     world: &mut World<P>,
@@ -37,7 +40,8 @@ fn gather_event<P: Player>(
     marks: &mut Vec<Mark>,
 ) -> Result<bool, AllocError>
     requires { IsSome (waits_at world.old thread) }
-    ensures gathers { Gathers view.now (SoMany P.Player thread 1) world.old world.new marks.old.items marks.new.items result }
+    ensures gathers { Gathers view.now (SoMany P.Player thread 1) (SoMany P.Player thread 1)
+        world.old world.new marks.old.items marks.new.items result }
     ensures less { IfOk result (λ goes_on. LeavesLess P.Player thread goes_on world.old world.new) }
     ensures actors { length world.new.actors ≡ length world.old.actors }
 {
@@ -75,7 +79,8 @@ fn gather_call<P: Player>(
     marks: &mut Vec<Mark>,
 ) -> Result<(), AllocError>
     requires { IsSome (waits_at world.old thread) }
-    ensures gathers { Gathers view.now (RowsOf P.Player thread) world.old world.new marks.old.items marks.new.items result }
+    ensures gathers { Gathers view.now (RowsOf P.Player thread) (RowsOf P.Player thread)
+        world.old world.new marks.old.items marks.new.items result }
     ensures less { OnOk result (LeavesLess P.Player thread false world.old world.new) }
     ensures actors { length world.new.actors ≡ length world.old.actors }
 {
@@ -95,7 +100,8 @@ fn gather_out<P: Player>(
     marks: &mut Vec<Mark>,
 ) -> Result<(), AllocError>
     requires { thread < length world.old.actors }
-    ensures gathers { Gathers view.now (ItemRows P.Player (Out thread)) world.old world.new marks.old.items marks.new.items result }
+    ensures gathers { Gathers view.now (ItemRows P.Player (Out thread)) (ItemFirst P.Player (Out thread))
+        world.old world.new marks.old.items marks.new.items result }
     ensures actors { length world.new.actors ≡ length world.old.actors }
 {
     while world.is_waiting(thread) {
@@ -114,7 +120,8 @@ fn gather_events<P: Player>(
     marks: &mut Vec<Mark>,
 ) -> Result<(), AllocError>
     requires { thread < length world.old.actors }
-    ensures gathers { Gathers view.now (ItemRows P.Player (Take thread count)) world.old world.new marks.old.items marks.new.items result }
+    ensures gathers { Gathers view.now (ItemRows P.Player (Take thread count)) (ItemFirst P.Player (Take thread count))
+        world.old world.new marks.old.items marks.new.items result }
     ensures actors { length world.new.actors ≡ length world.old.actors }
 {
     for _taken in 0..count {
@@ -135,7 +142,8 @@ fn gather_item<P: Player>(
     marks: &mut Vec<Mark>,
 ) -> Result<(), AllocError>
     requires { thread_of item < length world.old.actors }
-    ensures gathers { Gathers view.now (ItemRows P.Player item) world.old world.new marks.old.items marks.new.items result }
+    ensures gathers { Gathers view.now (ItemRows P.Player item) (ItemFirst P.Player item)
+        world.old world.new marks.old.items marks.new.items result }
     ensures actors { length world.new.actors ≡ length world.old.actors }
 {
     match item {
@@ -144,8 +152,10 @@ fn gather_item<P: Player>(
     }
 }
 
-/// One item after the other.
-fn gather_items<P: Player>(
+/// What the items of a schedule ask for, one after the other, and behind what is in `marks` those of the events that are shown.
+/// Each item is of a thread that there is. Where memory is refused for a mark, the event that it is of is the last one taken,
+/// and the marks of those before it stay.
+pub fn gather<P: Player>(
     alloc: Global,
     world: &mut World<P>,
     items: &[Item],
@@ -153,26 +163,11 @@ fn gather_items<P: Player>(
     marks: &mut Vec<Mark>,
 ) -> Result<(), AllocError>
     requires { All (λ i. thread_of i < length world.old.actors) items.now }
-    ensures { Gathers view.now (ScheduleRows P.Player items.now) world.old world.new marks.old.items marks.new.items result }
+    ensures { Gathers view.now (ScheduleRows P.Player items.now) (ScheduleFirst P.Player items.now)
+        world.old world.new marks.old.items marks.new.items result }
 {
     for item in items {
         gather_item(alloc, world, *item, view, marks)?;
     }
     Ok(())
-}
-
-/// What the items of a schedule ask for, one after the other, and the marks of those events that are shown. Each item is of a
-/// thread that there is. Where memory is refused, no further event is taken.
-pub fn gather<P: Player>(
-    alloc: Global,
-    world: &mut World<P>,
-    items: &[Item],
-    view: &View,
-) -> Result<Vec<Mark>, AllocError>
-    requires { All (λ i. thread_of i < length world.old.actors) items.now }
-    ensures { IfOk result (λ marks. Gathered view.now (ScheduleRows P.Player items.now) world.old world.new [] marks.items) }
-{
-    let mut marks = Vec::new(alloc);
-    gather_items(alloc, world, items, view, &mut marks)?;
-    Ok(marks)
 }

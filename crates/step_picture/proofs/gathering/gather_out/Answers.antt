@@ -1,6 +1,6 @@
 use Rattle.std.proofs.Common.{refl, ◌∙◌, arith}
-use Rattle.step_picture.proofs.Common.{RowsOf, both_of, no_more_first, no_more_on, none_of, run_falls}
-use Rattle.step_picture.proofs.GatheredMarks.{gathered_none, gathered_on}
+use Rattle.step_picture.proofs.Common.{RowsOf, both_of, err_from_is_err_and, no_more_first, no_more_on, none_of, run_falls}
+use Rattle.step_picture.proofs.GatheredMarks.{gathered_none, gathered_on, stopped_on}
 use Rattle.step_picture.proofs.gathering.gather_out.Goals as goal
 
 pub loop-alloc-init : goal.loop-alloc-init
@@ -24,6 +24,11 @@ loop-alloc-preserved g c =
       actors = c.gather_call.ensures.actors ∙ before.actors;
       less = no_more_on g.P.Player c.args.thread c.args.world.now c.loop-alloc.world c.gather_call.new.world before.actors waits before.less c.in_ok-gather_call.ensures.less;
     }
+
+pub returns-in_err-gather_call-clause-gathers : goal.returns-in_err-gather_call-clause-gathers
+returns-in_err-gather_call-clause-gathers g c =
+    let p = err_from_is_err_and c.from_residual.result c.from_residual.ensures.1 in
+    rw p.1 (stopped_on c.args.view.now (RowsOf g.P.Player c.args.thread) (RowsOf g.P.Player c.args.thread) (RowsOf g.P.Player c.args.thread) c.args.world.now c.loop-alloc.world c.gather_call.new.world _ _ _ (both_of g.P.Player c.args.thread c.args.world.now c.loop-alloc.world c.gather_call.new.world) c.loop-alloc.invariant.gathers c.in_err-gather_call.ensures.gathers)
 
 pub returns-clause-gathers : goal.returns-clause-gathers
 returns-clause-gathers g c =

@@ -1,6 +1,6 @@
 use Rattle.std.proofs.Common.{◌≡◌, length, take}
 use Rattle.step_picture.proofs.Common.{Gathered, ScheduleRows}
-use Rattle.step_picture.proofs.gathering.gather_items.Given as goal
+use Rattle.step_picture.proofs.gathering.gather.Given as goal
 
 abbrev pub invariant-loop-item : goal.invariant-loop-item
 invariant-loop-item g l = record {

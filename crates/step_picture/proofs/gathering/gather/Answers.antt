@@ -1,7 +1,7 @@
 use Rattle.std.proofs.Common.{◌≡◌, List, take, subst, refl, ◌∙◌, arith}
-use Rattle.step_picture.proofs.Common.{Item, ScheduleRows, common_steps, schedule_none}
-use Rattle.step_picture.proofs.GatheredMarks.{gathered_none, item_gathered}
-use Rattle.step_picture.proofs.gathering.gather_items.Goals as goal
+use Rattle.step_picture.proofs.Common.{Item, ScheduleRows, common_steps, err_from_is_err_and, schedule_none}
+use Rattle.step_picture.proofs.GatheredMarks.{gathered_none, item_gathered, item_stopped}
+use Rattle.step_picture.proofs.gathering.gather.Goals as goal
 
 pub loop-item-init : goal.loop-item-init
 loop-item-init g c = record {
@@ -16,6 +16,11 @@ loop-item-preserved g c =
       gathers = item_gathered g.P.Player c.args.view.now c.args.world.now c.loop-item.world c.gather_item.new.world _ _ _ c.args.items.now c.loop-item.item-index _ c.loop-item-test.true before.gathers c.in_ok-gather_item.ensures.gathers;
       actors = c.gather_item.ensures.actors ∙ before.actors;
     }
+
+pub returns-in_err-gather_item : goal.returns-in_err-gather_item
+returns-in_err-gather_item g c =
+    let p = err_from_is_err_and c.from_residual.result c.from_residual.ensures.1 in
+    rw p.1 (item_stopped g.P.Player c.args.view.now c.args.world.now c.loop-item.world c.gather_item.new.world _ _ _ c.args.items.now c.loop-item.item-index _ c.loop-item-test.true c.loop-item.invariant.gathers c.in_err-gather_item.ensures.gathers)
 
 pub returns : goal.returns
 returns g c =
