@@ -21,7 +21,7 @@ _ITM_beginTransaction:
     movq tx@gottpoff(%rip), %rax
     leaq 8(%rsp), %rdx
     movq (%rsp), %rcx
-    cmpl $0, %fs:104(%rax)  /* no block is open; blocks.c checks that these lie so */
+    cmpl $0, %fs:112(%rax)  /* no block is open; blocks.c checks that these lie so */
     jne 1f
     keep %fs:, %rax         /* the outermost one's */
     jmp begin_outermost

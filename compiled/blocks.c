@@ -1,11 +1,9 @@
 /* Blocks: how they begin, end, are cancelled, and run again. */
 #include "library.h"
-#include <sched.h>
-#include <stdlib.h>
 
 __thread struct tx tx __attribute__((tls_model("initial-exec")));
 
-_Static_assert(!offsetof(struct tx, outermost) && offsetof(struct tx, depth) == 104, "begin.S has them there");
+_Static_assert(!offsetof(struct tx, outermost) && offsetof(struct tx, depth) == 112, "begin.S has them there");
 
 /* After so many tries a transaction is serial, and so the next one is its last. */
 enum { MOST_TRIES = 100 };
@@ -14,7 +12,8 @@ enum { MOST_TRIES = 100 };
 static void reset_more(void) {
     tx.plain = tx.fixed = tx.engine_inner = tx.tries = 0;
     tx.inner.used = tx.undo.used = tx.commits.used = tx.undos.used = tx.fresh.used = 0;
-    tx.foreign_page = 0;
+    tx.fresh_top = 0;
+    tx.foreign_page = tx.outermost.id = 0;
     tx.serial = tx.has_more = false;
 }
 
@@ -24,25 +23,32 @@ static inline void end_try(void) {
     tx.ended++;
 }
 
-/* The thread's own part of going back to where a block began. */
-static void roll_back(const struct block *to) {
-    undo_to(to);
-    tx.commits.used = to->commits;
-    while (tx.undos.used > to->undos) {
-        tx.undos.used -= sizeof(struct action);
-        struct action a = *(struct action *)(tx.undos.at + tx.undos.used);
-        a.run(a.argument);
+/* The last one first. An action may have a transaction, which may add others at the end, or make the open one run again,
+ * which has to find what has not run. */
+static void run_undos(struct list *undos, size_t from) {
+    for (size_t end = undos->used; end > from;) {
+        end -= sizeof(struct action);
+        struct action *at = (void *)(undos->at + end), a = *at;
+        undos->used -= sizeof a;
+        memmove(at, at + 1, undos->used - end);
+        run_action(a);
     }
-    drop_fresh(to->fresh);
+}
+
+/* The outermost block is taken back, in the engine too. An action, and a `delete` of the program's, may have a transaction,
+ * so none is open by then. */
+static void end_taken_back(void) {
+    drop_fresh(&tx.outermost);
+    struct list undos = tx.undos;
+    end_try();
+    reset_more();
+    if (!undos.used) return;
+    tx.undos = (struct list){0};
+    run_undos(&undos, 0);
+    list_keep_room(&tx.undos, &undos);
 }
 
 /* -- begins -- */
-
-static void wait_a_little(unsigned times) {
-    if (times < 4)
-        for (int i = 0; i < 16 << times; i++) __builtin_ia32_pause();
-    else sched_yield();
-}
 
 static bool is_irrevocable(uint32_t props) {
     return props & GOES_IRREVOCABLE || !(props & INSTRUMENTED);
@@ -61,7 +67,7 @@ static SLOW void wait_to_enter(uint32_t code, bool serial, bool again) {
     }
 }
 
-/* (No fence: a thread that looks whether another's transaction is open orders them all, see threads.c.) */
+/* (No fence: a thread that looks whether another's transaction is open orders them all, see foreign.c.) */
 static inline void enter(bool serial, bool again) {
     uint32_t code = itm_c_begin(tx.engine, false, false, serial, again);
     if (UNLIKELY(code >= ITM_C_CONFLICT)) wait_to_enter(code, serial, again);
@@ -97,7 +103,7 @@ uint32_t begin_outermost(uint32_t props) {
 static void open_inner(uint32_t props, const struct registers *r) {
     if (tx.depth > 1 || !(tx.outermost.props & HAS_NO_ABORT)) become_serial();
     *(struct block *)list_add(&tx.inner, sizeof(struct block)) = (struct block){
-        *r, props, tx.plain, tx.undo.used, tx.commits.used, tx.undos.used, tx.fresh.used,
+        *r, props, tx.plain, tx.undo.used, tx.commits.used, tx.undos.used, tx.fresh.used, 0,
     };
     if (!tx.serial) {
         served(itm_c_begin(tx.engine, false, false, false, false));
@@ -123,17 +129,21 @@ uint32_t begin_inner(uint32_t props, const struct registers *r) {
 
 /* -- tries that have failed -- */
 
-/* The engine has rolled the transaction back. */
+/* The engine has rolled the transaction back. (An action's own transaction has the outermost block's place meanwhile, and may
+ * have given a lent handle away.) */
 static _Noreturn void restart(int tries) {
-    roll_back(&tx.outermost);
-    end_try();
-    reset_more();
+    struct block b = tx.outermost;
+    undo_to(0);
+    tx.restarts++;
+    end_taken_back();
+    tx.outermost = b;
+    tx.outermost.id = 0;
+    if (!tx.engine) take_handle();
     tx.has_more = true;
     tx.tries = tries;
-    tx.restarts++;
     bool is_last = tries > MOST_TRIES;
     if (!is_last) wait_a_little(tries);
-    uint32_t code = open_try(tx.outermost.props, is_last, true);
+    uint32_t code = open_try(b.props, is_last, true);
     return_again(code | RESTORE_LIVE, &tx.outermost.registers);
 }
 
@@ -176,13 +186,8 @@ ENTRY void _ITM_changeTransactionMode(int mode) {
 /* (An action may run a transaction.) */
 static void run_commits(struct list due) {
     tx.commits = (struct list){0};
-    for (size_t i = 0; i < due.used; i += sizeof(struct action)) {
-        struct action a = *(struct action *)(due.at + i);
-        a.run(a.argument);
-    }
-    due.used = 0;
-    if (tx.commits.at) list_drop(&due);
-    else tx.commits = due;
+    for (size_t i = 0; i < due.used; i += sizeof(struct action)) run_action(*(struct action *)(due.at + i));
+    list_keep_room(&tx.commits, &due);
 }
 
 /* The blocks behind the first so many are over, and the outermost one is not. */
@@ -239,17 +244,19 @@ ENTRY _Noreturn void _ITM_abortTransaction(int reason) {
     if (!tx.depth) fail("a cancel outside of a transaction");
     if ((reason & ~OUTER_ABORT) != USER_ABORT) fail("an abort for reason %d is not served", reason);
     if (target < tx.fixed) fail("a block can't be cancelled once unsafe code has run in it");
-    struct block *b = block_at(target);
-    roll_back(b);
+    struct block b = *block_at(target);
+    undo_to(target);
     cancel_in_engine(target);
     if (target) {
         drop_blocks(target);
+        tx.commits.used = b.commits;
+        drop_fresh(&b);
         set_fast();
+        run_undos(&tx.undos, b.undos);
     } else {
-        end_try();
         tx.cancels++;
-        reset_more();
+        end_taken_back();
         give_handle();
     }
-    return_again(ABORTED | RESTORE_LIVE, &b->registers);
+    return_again(ABORTED | RESTORE_LIVE, &b.registers);
 }

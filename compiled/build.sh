@@ -41,7 +41,7 @@ fi
 
 mkdir -p "$out" || exit 1
 "${CC:-gcc}" -std=c11 -O2 -g -fPIC -fvisibility=hidden -Wall -Wextra -shared -Wl,-soname,libitm.so.1 \
-    -Wl,--version-script="$here/libitm.map" -Wl,-z,now,-z,defs,--exclude-libs,ALL \
+    -Wl,--version-script="$here/libitm.map" -Wl,-z,now,-z,defs,-z,nodelete,--exclude-libs,ALL \
     -o "$out/libitm.so.1.new" "$here"/begin.S "$here"/*.c "$engine" -pthread || exit 1
 mv "$out/libitm.so.1.new" "$out/libitm.so.1"
 ln -sf libitm.so.1 "$out/libitm.so"

@@ -4,7 +4,8 @@
  *
  * Of all: one call at a time on a handle, and between calls from two threads on one handle a lock, a start or a join of a
  * thread. The two handles of one call are not the same one. A handle is left as the last call left it. No call from a
- * signal handler, or from a child of fork whose parent had threads. */
+ * signal handler. A child of fork makes no call on a handle on which one may have been under way. Once it uses none any more
+ * it may put the clock to 0 and open the cells anew, if no commit of another thread was under way by the fork. */
 #ifndef ITM_C_ENGINE_H
 #define ITM_C_ENGINE_H
 

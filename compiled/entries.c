@@ -3,12 +3,19 @@
 
 enum { NO_TRANSACTION = 1 }; /* as an id */
 
+static uint64_t last_id = NO_TRANSACTION;
+
 ENTRY int _ITM_inTransaction(void) {
     return !tx.depth ? 0 : tx.fixed ? 2 : 1;
 }
 
+/* Of the innermost block: few programs ask, so it has none before. */
 ENTRY uint64_t _ITM_getTransactionId(void) {
-    return tx.depth ? (uintptr_t)&tx : NO_TRANSACTION;
+    if (!tx.depth) return NO_TRANSACTION;
+    uint64_t *id = &block_at(tx.depth - 1)->id;
+    if (!*id) *id = __atomic_add_fetch(&last_id, 1, __ATOMIC_RELAXED);
+    tx.has_more = true;
+    return *id;
 }
 
 /* Actions are kept here, though the engine has its own: a serial transaction may be cancelled, which to the engine is
@@ -16,11 +23,11 @@ ENTRY uint64_t _ITM_getTransactionId(void) {
 ENTRY void _ITM_addUserCommitAction(void (*run)(void *), uint64_t id, void *argument) {
     if (id != NO_TRANSACTION) fail("a commit action that another transaction resumes is not served");
     if (!tx.depth) fail("a commit action outside of a transaction");
-    add_action(&tx.commits, run, argument);
+    add_action(&tx.commits, (struct action){.run = run, .argument = argument});
 }
 
 ENTRY void _ITM_addUserUndoAction(void (*run)(void *), void *argument) {
-    if (tx.depth > tx.fixed) add_action(&tx.undos, run, argument);
+    if (tx.depth > tx.fixed) add_action(&tx.undos, (struct action){.run = run, .argument = argument});
 }
 
 ENTRY int _ITM_versionCompatible(int version) {

@@ -10,6 +10,7 @@
 #ifndef LIBRARY_H
 #define LIBRARY_H
 #define _GNU_SOURCE
+#include <pthread.h>
 #include <string.h>
 #pragma GCC visibility push(hidden)
 #include "engine.h"
@@ -23,6 +24,8 @@
 enum { INSTRUMENTED = 1, UNINSTRUMENTED = 2, HAS_NO_ABORT = 8, GOES_IRREVOCABLE = 64 };
 enum { RUN_INSTRUMENTED = 1, RUN_UNINSTRUMENTED = 2, SAVE_LIVE = 4, RESTORE_LIVE = 8, ABORTED = 16 };
 enum { USER_ABORT = 1, OUTER_ABORT = 16 };
+
+enum { PAGE = 4096 };
 
 _Noreturn void fail(const char *form, ...);
 
@@ -44,13 +47,22 @@ struct list {
 
 void *list_add(struct list *, size_t size);
 void list_drop(struct list *);
+void list_keep_room(struct list *, struct list *spent);
 
+/* Of one argument, or of two, as `operator delete` of a size. */
 struct action {
     void (*run)(void *);
+    void (*run_sized)(void *, size_t);
     void *argument;
+    size_t size;
 };
 
-void add_action(struct list *, void (*run)(void *), void *argument);
+static inline void run_action(struct action a) {
+    if (a.run) a.run(a.argument);
+    else a.run_sized(a.argument, a.size);
+}
+
+void add_action(struct list *, struct action);
 
 /* -- blocks.c -- */
 
@@ -69,6 +81,7 @@ struct block {
     uint32_t props;
     int plain; /* of `tx`, by then */
     size_t undo, commits, undos, fresh;
+    uint64_t id; /* once the program has asked for it */
 };
 
 /* A thread's transactions. In a serial one the engine's is irrevocable, so no other one commits; what it writes is in
@@ -87,11 +100,14 @@ struct tx {
     int tries;
     struct list inner; /* struct block: those within the outermost one */
     struct list undo, commits, undos;
-    struct list fresh; /* of memory.c */
-    /* of threads.c */
+    struct list fresh; /* of memory.c, with the top of its tree */
+    uint32_t fresh_top;
+    /* of threads.c and foreign.c */
     struct itm_c_thread own_engine;
     struct memory stack, tls;
     bool is_shared;         /* others use its stack or its thread-local storage */
+    bool is_awaited;        /* somebody waits for the end of its open try, */
+    uint64_t awaited;       /* the one after so many */
     uintptr_t foreign_page; /* that was used last, in this transaction */
     struct tx *next;
     uint64_t restarts, cancels, serials;
@@ -118,17 +134,41 @@ static inline bool logs_shared(void) {
 
 /* -- threads.c -- */
 
+/* The threads that have had a transaction, under the lock. */
+extern pthread_mutex_t threads_lock;
+extern struct tx *first_thread;
+
 void take_handle(void);
 void give_handle(void);
+
+/* -- foreign.c -- */
+
+void find_own_memory(void);
+bool was_used(const struct memory *);
 void wait_for_owner(const void *p, size_t size);
+void wait_a_little(unsigned times);
+
+/* -- image.c -- */
+
+/* The program's data, .data and .bss: they begin with the word that is to be the clock. `clock` is 0 where there is none. */
+struct data {
+    uintptr_t first, writable, clock, end;
+};
+
+extern size_t tls_size;
+
+struct data find_data(void);
 
 /* -- region.c -- */
 
 extern struct memory region, constants;
-extern size_t tls_size;
 extern bool is_verbose;
 
 void find_region(void);
+
+static inline uint64_t *the_clock(void) {
+    return (uint64_t *)(region.at - 8);
+}
 
 static inline bool in_region(const void *p, size_t size) {
     uintptr_t at = (uintptr_t)p - region.at;
@@ -150,9 +190,9 @@ static inline void set_fast(void) {
 enum kind { SHARED, CONSTANT, OWN, FOREIGN };
 enum kind kind_of(const void *p, size_t size);
 void log_bytes(const void *p, size_t size);
-void undo_to(const struct block *);
-void add_fresh(void *p, size_t size);
-void drop_fresh(size_t left);
+void undo_to(int target);
+void add_fresh(void *p, size_t size, void (*release)(void *));
+void drop_fresh(const struct block *);
 
 /* -- barriers.c -- */
 
@@ -166,5 +206,6 @@ void write_shared(uint64_t place, const char *from, size_t size);
 
 extern void *__libc_malloc(size_t), *__libc_realloc(void *, size_t), *__libc_memalign(size_t, size_t);
 extern void __libc_free(void *);
+extern int __libc_mallopt(int, int);
 
 #endif

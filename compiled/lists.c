@@ -34,6 +34,13 @@ void list_drop(struct list *l) {
     *l = (struct list){0};
 }
 
-void add_action(struct list *l, void (*run)(void *), void *argument) {
-    *(struct action *)list_add(l, sizeof(struct action)) = (struct action){run, argument};
+/* `spent` was this list, and has all been used up: its room is of use again, where the list has got no other. */
+void list_keep_room(struct list *l, struct list *spent) {
+    spent->used = 0;
+    if (l->at) list_drop(spent);
+    else *l = *spent;
+}
+
+void add_action(struct list *l, struct action a) {
+    *(struct action *)list_add(l, sizeof a) = a;
 }

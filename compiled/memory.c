@@ -1,55 +1,93 @@
 /* Whose memory it is, the undo log, and what the open transaction has allocated. */
 #include "library.h"
-#include <stdlib.h>
 
-/* Frames of calls that the block at `sp` has made, on whichever stack. They are gone where it begins again, and nobody
- * else has them. */
+/* A frame of a call that the block which began at `sp` has made, and that has not returned. It is gone where the block
+ * begins again, and nobody else has it. Such frames lie between the two on whichever stack is used; other parts of a stack,
+ * as those of coroutines, may lie below or above. */
 static bool is_frame(uintptr_t at, const void *sp) {
-    if (at >= (uintptr_t)sp) return false;
-    return at >= (uintptr_t)__builtin_frame_address(0) || (is_within(at, &tx.stack) && is_within((uintptr_t)sp, &tx.stack));
+    return at < (uintptr_t)sp && at >= (uintptr_t)__builtin_frame_address(0);
 }
 
-/* -- what the transaction has allocated, in the order of the addresses -- */
+/* -- what the transaction has allocated: the list is in the order of age, and a search tree by address. Of two nodes the
+ * upper one is drawn by their addresses, so the tree is about as deep as one of random order. -- */
 
 struct fresh {
     struct memory memory;
-    size_t before; /* so many bytes of the list were used by those that are older */
+    void (*release)(void *);
+    uint32_t below, above; /* the two sides of the tree: numbers of the list from 1 on, or 0 */
 };
 
-static struct fresh *first_above(uintptr_t at) {
-    struct fresh *low = (void *)tx.fresh.at, *high = (void *)(tx.fresh.at + tx.fresh.used);
-    while (low < high) {
-        struct fresh *middle = low + (high - low) / 2;
-        if (middle->memory.at > at) high = middle;
-        else low = middle + 1;
-    }
-    return low;
+static inline struct fresh *numbered(uint32_t number) {
+    return (struct fresh *)tx.fresh.at + number - 1;
+}
+
+static inline uint32_t *side(struct fresh *f, uintptr_t at) {
+    return at < f->memory.at ? &f->below : &f->above;
+}
+
+static uint64_t drawn(const struct fresh *f) {
+    uint64_t n = f->memory.at >> 4;
+    n = (n ^ n >> 31) * 0x9e3779b97f4a7c15;
+    return n ^ n >> 32;
 }
 
 static bool is_fresh(uintptr_t at) {
-    struct fresh *f = first_above(at);
-    return (char *)f > tx.fresh.at && is_within(at, &f[-1].memory);
+    for (uint32_t number = tx.fresh_top; number;) {
+        struct fresh *f = numbered(number);
+        if (is_within(at, &f->memory)) return true;
+        number = *side(f, at);
+    }
+    return false;
 }
 
-void add_fresh(void *p, size_t size) {
-    struct fresh new = {{(uintptr_t)p, size ? size : 1}, tx.fresh.used};
-    char *end = list_add(&tx.fresh, sizeof new);
-    tx.fresh.used = new.before;
-    struct fresh *f = first_above(new.memory.at);
-    memmove(f + 1, f, end - (char *)f);
-    *f = new;
-    tx.fresh.used += sizeof new;
+/* What was in its place goes to its two sides. */
+static void split(uint32_t number, struct fresh *new) {
+    uint32_t *below = &new->below, *above = &new->above;
+    while (number) {
+        struct fresh *f = numbered(number);
+        if (f->memory.at <= new->memory.at) *below = number, below = &f->above, number = *below;
+        else *above = number, above = &f->below, number = *above;
+    }
+    *below = *above = 0;
+}
+
+void add_fresh(void *p, size_t size, void (*release)(void *)) {
+    struct fresh *new = list_add(&tx.fresh, sizeof *new);
+    *new = (struct fresh){{(uintptr_t)p, size ? size : 1}, release, 0, 0};
+    uint32_t *link = &tx.fresh_top;
+    while (*link && drawn(numbered(*link)) >= drawn(new)) link = side(numbered(*link), new->memory.at);
+    split(*link, new);
+    *link = tx.fresh.used / sizeof *new;
     set_fast();
 }
 
-/* Frees the younger ones. */
-void drop_fresh(size_t before) {
-    struct fresh *left = (void *)tx.fresh.at, *end = (void *)(tx.fresh.at + tx.fresh.used);
-    for (struct fresh *f = left; f < end; f++) {
-        if (f->before < before) *left++ = *f;
-        else free((void *)f->memory.at);
+/* Its two sides go to its place. */
+static void take_out(uint32_t number) {
+    struct fresh *old = numbered(number);
+    uint32_t *link = &tx.fresh_top, below = old->below, above = old->above;
+    while (*link != number) link = side(numbered(*link), old->memory.at);
+    while (below && above) {
+        bool is_upper = drawn(numbered(below)) >= drawn(numbered(above));
+        if (is_upper) *link = below, link = &numbered(below)->above, below = *link;
+        else *link = above, link = &numbered(above)->below, above = *link;
     }
-    tx.fresh.used = before;
+    *link = below ? below : above;
+}
+
+/* The block is taken back: what it has allocated is released, by actions that run behind its own ones. */
+void drop_fresh(const struct block *b) {
+    size_t count = (tx.fresh.used - b->fresh) / sizeof(struct fresh);
+    if (!count) return;
+    list_add(&tx.undos, count * sizeof(struct action));
+    struct action *to = (void *)(tx.undos.at + b->undos);
+    memmove(to + count, to, tx.undos.at + tx.undos.used - (char *)(to + count));
+    for (uint32_t number = tx.fresh.used / sizeof(struct fresh); count; count--, number--, to++) {
+        struct fresh *f = numbered(number);
+        *to = (struct action){.run = f->release, .argument = (void *)f->memory.at};
+        if (b->fresh) take_out(number);
+    }
+    tx.fresh.used = b->fresh;
+    if (!b->fresh) tx.fresh_top = 0;
 }
 
 /* -- kinds -- */
@@ -68,29 +106,41 @@ enum kind kind_of(const void *p, size_t size) {
 
 /* -- the undo log: bytes, and behind them what they are of -- */
 
+struct undo {
+    struct memory memory;
+    int frames; /* so many blocks, from the outermost on, have made the call whose frame it lies in */
+};
+
 static size_t padded(size_t size) {
     return (size + 15) & -16;
 }
 
-void log_bytes(const void *p, size_t size) {
-    if (!size || tx.depth <= tx.fixed) return;
-    if (is_frame((uintptr_t)p, block_at(tx.depth - 1)->registers.sp)) return;
-    char *to = list_add(&tx.undo, padded(size) + sizeof(struct memory));
-    memcpy(to, p, size);
-    *(struct memory *)(to + padded(size)) = (struct memory){(uintptr_t)p, size};
+static int blocks_above(uintptr_t at) {
+    int count = 0;
+    while (count < tx.depth && is_frame(at, block_at(count)->registers.sp)) count++;
+    return count;
 }
 
-static void undo_one(const struct memory *m, const char *bytes, const struct block *to) {
-    if (is_frame(m->at, to->registers.sp)) return;
+void log_bytes(const void *p, size_t size) {
+    if (!size || tx.depth <= tx.fixed) return;
+    int frames = blocks_above((uintptr_t)p);
+    if (frames == tx.depth) return;
+    char *to = list_add(&tx.undo, padded(size) + sizeof(struct undo));
+    memcpy(to, p, size);
+    *(struct undo *)(to + padded(size)) = (struct undo){{(uintptr_t)p, size}, frames};
+}
+
+static void put_back(const struct memory *m, const char *bytes) {
     if (tx.serial && in_region((void *)m->at, m->size)) write_shared(m->at - region.at, bytes, m->size);
     else memcpy((void *)m->at, bytes, m->size);
 }
 
-void undo_to(const struct block *to) {
-    while (tx.undo.used > to->undo) {
-        struct memory *m = (void *)(tx.undo.at + tx.undo.used - sizeof *m);
-        char *bytes = (char *)m - padded(m->size);
-        undo_one(m, bytes, to);
+/* What lies in a frame of a call that this block has made is left: others may have that place by now. */
+void undo_to(int target) {
+    while (tx.undo.used > block_at(target)->undo) {
+        struct undo *u = (void *)(tx.undo.at + tx.undo.used - sizeof *u);
+        char *bytes = (char *)u - padded(u->memory.size);
+        if (target >= u->frames) put_back(&u->memory, bytes);
         tx.undo.used = bytes - tx.undo.at;
     }
 }

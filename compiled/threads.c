@@ -1,12 +1,7 @@
-/* Threads: how they come and go, whose handle of the engine they use, and whose memory is whose. */
+/* Threads: how they come and go, and whose handle of the engine they use. */
 #include "library.h"
-#include <linux/membarrier.h>
-#include <pthread.h>
-#include <sched.h>
 #include <stdio.h>
 #include <stdlib.h>
-#include <sys/syscall.h>
-#include <unistd.h>
 
 /* The engine has 127 handles. A thread has one for itself, and who comes once these are taken is lent one for each
  * transaction. */
@@ -19,9 +14,9 @@ static struct lent {
     bool is_out;
 } lent[LENT_HANDLES];
 
-static pthread_mutex_t threads_lock = PTHREAD_MUTEX_INITIALIZER;
+pthread_mutex_t threads_lock = PTHREAD_MUTEX_INITIALIZER;
+struct tx *first_thread;
 static pthread_cond_t handle_is_free = PTHREAD_COND_INITIALIZER;
-static struct tx *first_thread;
 static uint64_t all_committed, all_restarts, all_serials;
 static pthread_key_t leaving;
 
@@ -43,66 +38,19 @@ static void tell_counts(void) {
 
 /* -- the process -- */
 
+static void start(void);
 static void leave(void *);
 
 /* (Under the lock.) */
 static void open_engine(void) {
-    struct itm_c_cells cells = {(uint64_t *)(region.at - 8), (region.size + 8) / 8};
+    struct itm_c_cells cells = {the_clock(), (region.size + 8) / 8};
+    static bool is_first = true;
     if (*cells.at) fail("the word before the program's data is in use");
     uint32_t code = itm_c_open(cells, &words);
     if (code) fail("the engine could not open the region: %u", code);
-    if (pthread_key_create(&leaving, leave)) fail("no key for threads");
-    if (is_verbose) atexit(tell_counts);
-}
-
-/* -- memory of a thread that others use. From the first such use on it is foreign to its own thread too. -- */
-
-/* Where that was while nobody had it: a thread that comes later may. Once these are too many, it is anywhere. */
-enum { MOST_UNOWNED = 256, GRAIN = 1 << 16 };
-static uintptr_t unowned[MOST_UNOWNED];
-static int unowned_count;
-
-static bool was_used(const struct memory *m) {
-    for (int i = 0; i < unowned_count; i++)
-        if (unowned[i] + GRAIN > m->at && unowned[i] < m->at + m->size) return true;
-    return unowned_count == MOST_UNOWNED;
-}
-
-static void note_unowned(uintptr_t at) {
-    struct memory grain = {at & -(uintptr_t)GRAIN, GRAIN};
-    if (!was_used(&grain)) unowned[unowned_count++] = grain.at;
-}
-
-static struct tx *owner_of(uintptr_t at) {
-    struct tx *t = first_thread;
-    while (t && !is_within(at, &t->stack) && !is_within(at, &t->tls)) t = t->next;
-    return t;
-}
-
-/* The owner's transaction that is open just now may have used it unguarded: it has to end. It does, since the clock is
- * held by this one: what it can't do without the clock it gives up, and none is open while the owner waits for it. */
-static void mark_shared(struct tx *owner) {
-    __atomic_store_n(&owner->is_shared, true, __ATOMIC_SEQ_CST);
-    syscall(SYS_membarrier, MEMBARRIER_CMD_REGISTER_PRIVATE_EXPEDITED, 0, 0);
-    if (syscall(SYS_membarrier, MEMBARRIER_CMD_PRIVATE_EXPEDITED, 0, 0))
-        fail("memory of another thread is used, and the kernel has no membarrier to order the two");
-    while (__atomic_load_n(&owner->depth, __ATOMIC_ACQUIRE)) sched_yield();
-}
-
-static void use_foreign_at(uintptr_t at) {
-    if (at / 4096 == tx.foreign_page) return;
-    pthread_mutex_lock(&threads_lock);
-    struct tx *owner = owner_of(at);
-    if (!owner) note_unowned(at);
-    else if (owner != &tx && !owner->is_shared) mark_shared(owner);
-    pthread_mutex_unlock(&threads_lock);
-    tx.foreign_page = at / 4096;
-}
-
-/* Foreign memory is used, in a serial transaction. */
-void wait_for_owner(const void *p, size_t size) {
-    use_foreign_at((uintptr_t)p);
-    use_foreign_at((uintptr_t)p + size - 1);
+    if (is_first && pthread_key_create(&leaving, leave)) fail("no key for threads");
+    if (is_first && is_verbose) atexit(tell_counts);
+    is_first = false;
 }
 
 /* -- handles, under the lock -- */
@@ -131,17 +79,6 @@ static struct itm_c_thread *find_handle(void) {
     return &tx.own_engine;
 }
 
-static void find_own_memory(void) {
-    pthread_attr_t attributes;
-    void *at;
-    size_t size;
-    if (pthread_getattr_np(pthread_self(), &attributes) || pthread_attr_getstack(&attributes, &at, &size))
-        fail("a thread's stack can't be found");
-    pthread_attr_destroy(&attributes);
-    tx.stack = (struct memory){(uintptr_t)at, size};
-    tx.tls = (struct memory){(uintptr_t)__builtin_thread_pointer() - tls_size, tls_size};
-}
-
 static void add_thread(void) {
     tx.is_shared = was_used(&tx.stack) || was_used(&tx.tls);
     tx.next = first_thread;
@@ -149,19 +86,48 @@ static void add_thread(void) {
     pthread_setspecific(leaving, &tx);
 }
 
+/* (A thread that was cancelled here would keep the lock. And a transaction may come before the library's start.) */
 void take_handle(void) {
+    int cancelled;
     bool is_new = !tx.stack.size;
+    pthread_setcancelstate(PTHREAD_CANCEL_DISABLE, &cancelled);
+    start();
     if (is_new) find_own_memory();
     pthread_mutex_lock(&threads_lock);
     if (!words.at) open_engine();
     if (is_new) add_thread();
     while (!(tx.engine = find_handle())) pthread_cond_wait(&handle_is_free, &threads_lock);
     pthread_mutex_unlock(&threads_lock);
+    pthread_setcancelstate(cancelled, 0);
 }
 
-/* Where it is a lent one. */
+/* -- a child of a fork: what the other threads did with their handles they have not ended, so it leaves the engine as it is,
+ * and opens the region anew. No commit of theirs was under way by the fork. -- */
+
+static bool has_lost_handles;
+
+static void forget_engine(void) {
+    words = (struct itm_c_words){0};
+    memset(lent, 0, sizeof lent);
+    own_handles = 0;
+    tx.own_engine = (struct itm_c_thread){0};
+    tx.engine = 0;
+    has_lost_handles = false;
+    *the_clock() = 0;
+}
+
+/* Forked within a transaction it goes on with its handle, and does so behind that, if it has no thread that uses the
+ * engine by then. */
+static SLOW void forget_if_alone(void) {
+    pthread_mutex_lock(&threads_lock);
+    if (first_thread == &tx && !tx.next) forget_engine();
+    pthread_mutex_unlock(&threads_lock);
+}
+
+/* Where it is a lent one, and an action's transaction has not given it yet. */
 void give_handle(void) {
-    if (tx.engine == &tx.own_engine) return;
+    if (UNLIKELY(has_lost_handles)) forget_if_alone();
+    if (!tx.engine || tx.engine == &tx.own_engine) return;
     pthread_mutex_lock(&threads_lock);
     ((struct lent *)tx.engine)->is_out = false;
     tx.engine = 0;
@@ -181,6 +147,7 @@ static void leave(void *none) {
     struct list *lists[] = {&tx.inner, &tx.undo, &tx.commits, &tx.undos, &tx.fresh};
     (void)none;
     if (tx.depth) fail("a thread ends within a transaction");
+    give_handle();
     pthread_mutex_lock(&threads_lock);
     if (tx.engine) {
         if (itm_c_leave(&words, tx.engine)) fail("a thread could not leave");
@@ -205,7 +172,8 @@ static void before_fork(void) {
     if (!holds_clock) return;
     pthread_mutex_unlock(&threads_lock);
     if (!tx.engine) take_handle();
-    while (itm_c_begin(tx.engine, false, false, true, false) != ITM_C_ENTERED) sched_yield();
+    for (unsigned times = 0; itm_c_begin(tx.engine, false, false, true, false) != ITM_C_ENTERED; times++)
+        wait_a_little(times);
     pthread_mutex_lock(&threads_lock);
 }
 
@@ -216,15 +184,17 @@ static void after_fork(void) {
     give_handle();
 }
 
-/* The other threads are gone, with their handles. */
 static void in_child(void) {
     handle_is_free = (pthread_cond_t)PTHREAD_COND_INITIALIZER;
     first_thread = tx.stack.size ? &tx : 0;
     tx.next = 0;
-    after_fork();
+    has_lost_handles = words.at;
+    if (holds_clock) forget_engine();
+    pthread_mutex_unlock(&threads_lock);
 }
 
 static __attribute__((constructor)) void start(void) {
+    if (region.size) return;
     find_region();
     pthread_atfork(before_fork, after_fork, in_child);
 }
