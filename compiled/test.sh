@@ -7,7 +7,7 @@
 #
 # Environment:
 #   LIB      the folder of the libitm.so.1 that is tested, compiled/out where it is not set
-#   CC       the compiler, gcc where it is not set
+#   CC, CXX  the compilers, gcc and g++ where they are not set
 #   ONLY     the names of the programs to take, such as `bank kmeans`; all where it is not set
 #   LEVELS   of optimisation, `0 2 3` where it is not set
 #   THREADS  `1 2 4` where it is not set
@@ -16,12 +16,13 @@
 #   LIBITM   the folder libitm of GCC's source, for its own test programs; where it is not set, and the source of GCC 12
 #            is installed (Debian: gcc-12-source), it is taken out of that
 #
-# A row for each program tells, by level, the numbers of threads with which it was right. The last line is
-# `N passed, M failed`; the exit status is 0 where none failed.
+# A row for each program tells, by level, the numbers of threads with which it was right. Those of programs/faults run on the
+# compiler's own libitm too, at -O0 on four threads (from -O1 on it leaves `x++` of a cancelled block done): that counts for
+# nothing. The last line is `N passed, M failed`; the exit status is 0 where none failed.
 set -u
 here=$(CDPATH= cd -- "$(dirname -- "$0")" && pwd) || exit 1
 lib=${LIB:-$here/out}
-cc=${CC:-gcc}
+cc=${CC:-gcc} cxx=${CXX:-g++}
 levels=${LEVELS:-0 2 3} thread_counts=${THREADS:-1 2 4} long=${LONG:-20000} limit=${LIMIT:-60}
 case ${1:-all} in
 all) mode=all ;;
@@ -30,7 +31,7 @@ few) mode=few levels=2 thread_counts=4 long=0 ;;
 esac
 # few of them, which touch each part of the library
 few='counters words nested relaxed names actions locals heap_list stacks ends foreign contended own_stack thread_local in_turn
-     loads late vacation labyrinth'
+     loads late vacation labyrinth coroutine_nested fork_many new_replaced trim undo_tx'
 
 work=$(mktemp -d) || exit 1
 trap 'rm -rf "$work"' EXIT
@@ -61,24 +62,38 @@ is_wanted() {
     esac
 }
 
+# name_of SOURCE
+name_of() {
+    basename "${1%.c*}"
+}
+
 # the files of the programs
 sources() {
-    for source in "$here"/programs/*.c "$here"/programs/*/*.c "$here"/../judge/programs/*.c; do
-        name=$(basename "$source" .c)
+    for source in "$here"/programs/*.c "$here"/programs/*/*.c "$here"/programs/*/*.cpp "$here"/../judge/programs/*.c; do
+        name=$(name_of "$source")
+        case $source in *.cpp) command -v "$cxx" >/dev/null || continue ;; esac
         [ "$name" != plug ] && [ -f "$source" ] && is_wanted "$name" && echo "$source"
     done
 }
 
 # key_of SOURCE: a name that the programs of all folders may share with each other
 key_of() {
-    echo "$(basename "$(dirname "$(dirname "$1")")")-$(basename "$(dirname "$1")")-$(basename "$1" .c)"
+    echo "$(basename "$(dirname "$(dirname "$1")")")-$(basename "$(dirname "$1")")-$(name_of "$1")"
 }
 
-# build SOURCE LEVEL
+# build SOURCE LEVEL: one with a part in NAME_plain.cc has that without transactions
 build() {
-    program=$work/$(key_of "$1").$2 transactions=-fgnu-tm
+    program=$work/$(key_of "$1").$2 transactions=-fgnu-tm plain=${1%.c*}_plain.cc compiler=$cc
+    flags=$(sed -n 's/.*Built with \(-.*\) \*\/$/\1/p' "$1")
     grep -q '^#define NO_TRANSACTIONS' "$1" && transactions=
-    $cc -O"$2" $transactions -pthread -o "$program" "$1" -ldl 2>"$program.told" || return 1
+    case $1 in *.cpp) compiler=$cxx ;; esac
+    if [ -f "$plain" ]; then
+        $cxx -O"$2" -c -o "$program.o" "$plain" 2>"$program.told" || return 1
+        plain=$program.o
+    else
+        plain=
+    fi
+    $compiler -O"$2" $transactions -pthread $flags -o "$program" "$1" $plain -ldl 2>"$program.told" || return 1
     grep -q 'PROGRAM\.so' "$1" || return 0
     $cc -O"$2" -fgnu-tm -fPIC -shared -o "$program.so" "$here/programs/plug.c" 2>"$program.told"
 }
@@ -104,6 +119,7 @@ answer() {
     case $3 in
     0) [ "$(tail -n 1 "$2.out")" = "$(due "$1")" ] || echo WRONG ;;
     1) echo WRONG ;;
+    77) echo skipped ;;
     124 | 137) echo HUNG ;;
     139) echo CRASHED ;;
     *) echo "ENDED($3)" ;;
@@ -127,6 +143,11 @@ is_refused() {
     grep -q 'end the program with a message' "$1" && [ -s "$2.err" ] && [ "$3" != 124 ] && [ "$3" != 137 ] && [ "$3" != 139 ]
 }
 
+# is_known SOURCE: a program that this library does not serve says so at its head
+is_known() {
+    head -n 1 "$1" | grep -q 'Not served, see docs/COMPILED.md'
+}
+
 # one SOURCE LEVEL THREADS [ROUNDS]: sets `cell`. A long run may take five times as long.
 one() {
     program=$work/$(key_of "$1").$2
@@ -139,16 +160,26 @@ one() {
     if [ -n "$told" ] && is_refused "$1" "$program" "$status"; then
         told= cell=$3:refused
     fi
-    result "$(basename "$1" .c) -O$2, $3 threads${4:+, $4 rounds}" "$told" "$program"
-    [ -z "$told" ] || cell=$3:$told
+    cell=$cell${told:+:$told}
+    [ "$told" = skipped ] && return
+    [ -n "$told" ] && is_known "$1" && cell="$3:not served" && return
+    result "$(name_of "$1") -O$2, $3 threads${4:+, $4 rounds}" "$told" "$program"
+}
+
+# on_libitm SOURCE: sets `cell` by what the compiler's own library gives
+on_libitm() {
+    own=$lib lib= whole=$limit limit=20 program=$work/$(key_of "$1").0
+    run "$program" 4
+    cell=$(answer "$1" "$program" $?)
+    cell=${cell:-right} lib=$own limit=$whole
 }
 
 # row SOURCE: its runs, in a row
 row() {
-    text="| $(basename "$1" .c) |"
+    text="| $(name_of "$1") |"
     for level in $levels; do
         if ! build "$1" "$level"; then
-            result "$(basename "$1" .c) -O$level" 'NOT BUILT' "$work/$(key_of "$1").$level.told"
+            result "$(name_of "$1") -O$level" 'NOT BUILT' "$work/$(key_of "$1").$level.told"
             text="$text not built |"
             continue
         fi
@@ -163,6 +194,14 @@ row() {
         [ "$cell" = 4 ] && cell=right
         text="$text ${cell#4:} |"
     fi
+    case $mode:$1 in
+    all:*/faults/*)
+        cell=
+        [ ! -f "$work/$(key_of "$1").0" ] || on_libitm "$1"
+        text="$text $cell |"
+        ;;
+    all:*) text="$text |" ;;
+    esac
     echo "$text"
 }
 
@@ -171,6 +210,7 @@ for level in $levels; do
     head="$head -O$level |" rule="$rule---|"
 done
 [ "$long" = 0 ] || { head="$head $long rounds |" rule="$rule---|"; }
+[ "$mode" != all ] || { head="$head libitm |" rule="$rule---|"; }
 echo "$head"
 echo "$rule"
 sources >"$work/sources"
