@@ -40,7 +40,7 @@ fn threads_meet(rt: HostRuntime) -> Result<(), ThreadsFault> {
     let mut bytes = [0u8; 16];
     let body = |thread, client: &mut Client| meet(thread, client).is_ok();
     let joined = run(&rt, rt.alloc(), &mut bytes, 2, u64::MAX, &body)?;
-    assert_eq!(rt; joined.values.as_slice(), [true, true]);
+    assert_eq!(rt; joined.values.as_slice(), [true, true].as_slice());
     assert_eq!(rt; joined.clock, 4);
     assert_eq!(rt; bytes, [1, 0, 0, 0, 0, 0, 0, 0, 1, 0, 0, 0, 0, 0, 0, 0]);
     Ok(())
