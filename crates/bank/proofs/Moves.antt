@@ -1,5 +1,5 @@
 -- A transfer's calls on the plain machine move the amount.
-use Rattle.std.proofs.Common.{◌≡◌, ◌∙◌, ℕ, ◌+◌, ◌-◌, true, List, [], ◌∷◌, Result, Ok, IfOk, ap, refl, subst}
+use Rattle.std.proofs.Common.{◌≡◌, ◌∙◌, ℕ, ◌+◌, ◌-◌, Bool, true, List, [], ◌∷◌, Result, Ok, IfOk, ap, refl, subst}
 use Rattle.bank.proofs.Common.{Begin, Call, Called, CalledAtMut, CanMove, Code, Commit, CommitAction, Done, HasMoved, IsMade, IsPlain, IsPlainRun, KeepsBody, Lent, Makings, Mut, MutBor, R, RECEIPT, Read, Replied as Reply, Standing, Stopped, Transfer, U8, Unmade, W, Words, Write, after, begun_at, bytes_of_number, bytes_reply, closed, deeds_of_transfer, effect, number, refusal, usual, with_action, written}
 use Rattle.std.proofs.lemmas.Result.{IfOk-weaker}
 use Rattle.itm_types.{specs.declared.call.Action.Action, specs.declared.datum.Datum.Datum, specs.Slices.slice}
@@ -77,8 +77,8 @@ module _ {F : Type 0} (fn : Mut F (MutBor Lent × Unit {0}) (Result (Unit {0}) (
   makings_of : Made → Makings fn
   makings_of made f x value f' x' run = let m = made_at made f x value f' x' run in (deeds_of_transfer (transfer_of f) m.had m.has m.gone, m.makes)
 
-  pub all_moved : Made → KeepsBody fn → (first : F) (words : Words) (r : Result (Value (Unit {0})) (Failed Unmade)) (new : Standing) → ((makings : Makings fn) → IfOk r (λ done. IsPlainRun fn makings first words done new)) → IfOk r (λ done. HasMoved (transfer_of first) done new)
+  pub all_moved : Made → KeepsBody fn → (After : F → Lent → Bool → Type 0) (first : F) (words : Words) (r : Result (Value (Unit {0})) (Failed Unmade)) (new : Standing) → ((makings : Makings fn) → IfOk r (λ done. IsPlainRun fn makings After first words done new)) → IfOk r (λ done. HasMoved (transfer_of first) done new)
   unfolding makings_of
-  all_moved made steady first words r new plain =
+  all_moved made steady After first words r new plain =
       IfOk-weaker r _ _ (λ done run. let m = made_at made run.body run.began done.value run.body' run.last run.runs in
       subst (λ (f : F). HasMoved (transfer_of f) done new) (run.same steady) (has_moved run.began.thread.engine.depth run.began.thread.engine.arena (transfer_of run.body) m.had m.has m.gone done new m.can run.plain)) (plain (makings_of made))

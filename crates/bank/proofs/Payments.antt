@@ -25,8 +25,8 @@ module _ {F : Type 0} (fn : Mut F (MutBor Lent × Unit {0}) (Result (Unit {0}) (
   unfolding makings_of
   block_paid paid steady first old new told gave value is so plain =
       let b : IsPlainBlock fn (makings_of paid) first old value new = subst (λ (r : Result (Result (Unit {0}) Unmade) Stop). IsPlainIn fn (makings_of paid) first old r new) (is ∙ ap Ok so) (plain (makings_of paid)) in
-      let p = paid_at paid b.body b.began value b.body' b.last b.runs in
-      subst (λ (f : F). HasPaidIn (place_of f) (amount_of f) old.words old.thread new.thread) (b.same steady) (record { has = p.has; room = p.room; gone = b.gone; makes = b.makes })
+      let p = paid_at paid b.body b.began value b.body' b.last b.run.runs in
+      subst (λ (f : F). HasPaidIn (place_of f) (amount_of f) old.words old.thread new.thread) (b.run.same steady) (record { has = p.has; room = p.room; gone = b.gone; makes = b.makes })
 
 pub paid_over : (w words : Words) (place amount : ℕ) (old new : Standing) → w ≡ words → HasPaidIn place amount w old new → HasPaidIn place amount words old new
 paid_over w words place amount old new e paid = subst (λ (v : Words). HasPaidIn place amount v old new) e paid

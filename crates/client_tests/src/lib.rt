@@ -3,5 +3,8 @@
 
 #[cfg(test)]
 mod at_once;
+mod learning;
 #[cfg(test)]
 mod tests;
+
+pub use learning::learn;

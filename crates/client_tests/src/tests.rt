@@ -3,6 +3,7 @@
 ghost use Rattle.std.specs.Prelude.{◌≡◌, false};
 ghost use Rattle.shared_words.specs.Passes.{Owns, view_of};
 
+use crate::learning::learn;
 use itm_runtime::Thread;
 use itm_types::{Action, Limits, MAX_COMMITS, Refusal, USUAL_DEPTH};
 use shared_words::{Pass, Words};
@@ -63,6 +64,7 @@ enum Case {
     RegisterAnAction,
     TakeABlockBack,
     RunABlockAgain,
+    LearnOfABlock,
 }
 
 fn try_case(rt: &impl Abort, case: Case, one: &mut Client, other: &mut Client) {
@@ -75,6 +77,7 @@ fn try_case(rt: &impl Abort, case: Case, one: &mut Client, other: &mut Client) {
         Case::RegisterAnAction => register_an_action(rt, one),
         Case::TakeABlockBack => take_a_block_back(rt, one),
         Case::RunABlockAgain => run_a_block_again(rt, one, other),
+        Case::LearnOfABlock => learn_of_a_block(rt, one),
     }
 }
 
@@ -268,4 +271,21 @@ fn run_a_block_again(rt: &impl Abort, one: &mut Client, other: &mut Client) {
 #[test]
 fn runs_a_block_again(rt: HostRuntime) -> Result<(), AllocError> {
     on_two(&rt, rt.alloc(), 1, Case::RunABlockAgain)
+}
+
+/// What was read in a block that is taken back is acted on afterwards.
+fn learn_of_a_block(rt: &impl Abort, one: &mut Client) {
+    let done = |value, at| Ok(Done {
+        value,
+        at,
+        wrote: true,
+    });
+    assert_eq!(rt; add(one, 8, 7), done(0, 0));
+    assert_eq!(rt; learn(one, 8, 16), done(7, 1));
+    assert_eq!(rt; add(one, 16, 1), done(7, 2));
+}
+
+#[test]
+fn learns_of_a_block(rt: HostRuntime) -> Result<(), AllocError> {
+    on_two(&rt, rt.alloc(), 1, Case::LearnOfABlock)
 }

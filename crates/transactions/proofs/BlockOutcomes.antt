@@ -162,10 +162,10 @@ module _ (words : Words) (t l new : Standing) (began : Core) (h : HasEntered t.e
   ]
 
   -- one that is served
-  pub served_back : (a : Answer) → IsAnswered words (start_of l (Abort false) false) a new.pass new.engine → GoesOn a → HasGoneBack t new
-  served_back a answered on = on_answer (λ (x : Answer). IsAnswered words (start_of l (Abort false) false) x new.pass new.engine → HasGoneBack t new) a on
+  pub served_back : (a : Answer) → IsAnswered words (start_of l (Abort false) false) a new.pass new.engine → GoesOn a → HasGoneBack t new × (a ≡ Reply (Code 24))
+  served_back a answered on = on_answer (λ (x : Answer). IsAnswered words (start_of l (Abort false) false) x new.pass new.engine → HasGoneBack t new × (x ≡ Reply (Code 24))) a on
       (λ r goes now. elim w [
-        | inl within ↦ (taken_back words t l new began h is inside within r now).0
+        | inl within ↦ (let back = taken_back words t l new began h is inside within r now in (back.0, ap Reply back.1))
         | inr shut ↦ (let m = came_over (start_of l (Abort false) false) (view_of new.pass) new.engine in
             absurd (goes (stops.Refused Outside) (ap (λ (x : Replied). Some (Reply x)) (sym (now.served.tells.here.reply_is ∙ abort_refused l.engine.depth (stands_for l.engine m) (engine_open l.engine m is ∙ shut))))))
       ])
@@ -230,8 +230,15 @@ module _ (from began last new : Lent) (e : Enters from began) (kept : IsKept beg
     | inr back ↦ back
   ]
 
+  served_so : (done : Unit {0}) (ends : Leaves (Abort false) last (Ok done) new) → HasGoneBack from.thread new.thread × (ends.answer ≡ Reply (Code 24))
+  served_so done ends = served_back last.words from.thread last.thread new.thread began.thread.engine h ends.revocable e.inside still ends.answer ends.answered ends.checked
+
   -- a rollback of it that is served leaves the transaction open
   pub back_served : (done : Unit {0}) → Leaves (Abort false) last (Ok done) new → (in_transaction new.thread.engine ≡ true) × HasGoneBack from.thread new.thread
   back_served done ends =
-      let back = served_back last.words from.thread last.thread new.thread began.thread.engine h ends.revocable e.inside still ends.answer ends.answered ends.checked in
+      let back = (served_so done ends).0 in
       (ap is_inside back.1.blocks ∙ e.inside, back)
+
+  pub abort_served : (done : Unit {0}) → Leaves (Abort false) last (Ok done) new → IsAnswered last.words (start_of last.thread (Abort false) false) (Reply (Code 24)) new.thread.pass new.thread.engine
+  abort_served done ends =
+      subst (λ (a : Answer). IsAnswered last.words (start_of last.thread (Abort false) false) a new.thread.pass new.thread.engine) (served_so done ends).1 ends.answered

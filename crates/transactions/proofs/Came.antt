@@ -1,8 +1,8 @@
 -- What all tries of a body come to.
-use Rattle.std.proofs.Common.{◌≡◌, ◌∙◌, ◌+◌, ◌≤◌, ℕ, List, Result, Ok, Err, IfErr, IfOk, ap, arith, refl}
-use Rattle.transactions.proofs.Common.{ComesTo, Failed, Fails, HasLooked, IsCancelled, IsKept, IsLeft, IsPlainRun, KeepsBody, KeepsLent, Lent, Makings, Mut, MutBor, Standing, Stopped, Value, Words, mine_left, mine_of, view_of, went_on}
+use Rattle.std.proofs.Common.{◌≡◌, ◌∙◌, ◌+◌, ◌≤◌, ℕ, List, Result, Ok, Err, IfErr, ap, arith}
+use Rattle.transactions.proofs.Common.{ComesTo, Failed, Fails, HasLooked, IsCancelled, IsKept, IsLeft, KeepsBody, KeepsLent, Lent, Mut, MutBor, Standing, Stopped, Value, Words, mine_left, mine_of, view_of, went_on}
 use Rattle.transactions.specs.declared.failed.Failed.TheVariants as failures
-use Rattle.transactions.{proofs.Plain.plain_run, proofs.Tries.rebased}
+use Rattle.transactions.proofs.Tries.{rebased}
 
 module _ {F R E : Type 0} (fn : Mut F (MutBor Lent × Unit {0}) (Result R (Stopped E) × (MutBor Lent × Unit {0}))) where
   -- told of the words and the body that came first
@@ -10,10 +10,6 @@ module _ {F R E : Type 0} (fn : Mut F (MutBor Lent × Unit {0}) (Result R (Stopp
   came_first words first is body passed same (Ok done) new t = rebased fn words first is body passed same _ new t
   came_first words first is body passed same (Err failures.Tries) new t = tt
   came_first words first is body passed same (Err why) new t = rebased fn words first is body passed same _ new t
-
-  pub plain_of : (makings : Makings fn) (body : F) (words : Words) → KeepsLent fn → (told : Result (Value R) (Failed E)) (new : Standing) → ComesTo fn body words told new → IfOk told (λ done. IsPlainRun fn makings body words done new)
-  plain_of makings body words keeps (Ok done) new t = plain_run fn makings body words done new words refl body (λ steady. refl) keeps t
-  plain_of makings body words keeps (Err why) new t = tt
 
 -- a try whose body took it back has looked at the clock
 pub cancelled_goes : (R : Type 0) {E : Type 0} (why : Failed E) → IsCancelled {R = R} (Err why) → HasLooked {R = R} (Fails why)

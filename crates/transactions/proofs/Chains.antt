@@ -76,11 +76,11 @@ lent_after old mid new tries tried told was same now = record {
 -- ## Tries in a row
 
 module _ {F R E : Type 0} (fn : Mut F (MutBor Lent × Unit {0}) (Result R (Stopped E) × (MutBor Lent × Unit {0}))) (f : F) (old : Lent) where
-  tries_words : KeepsLent fn → (n : ℕ) (again : Bool) (f' : F) (new : Lent) → AreTries fn f old n again f' new → new.words ≡ old.words
+  pub tries_words : KeepsLent fn → (n : ℕ) (again : Bool) (f' : F) (new : Lent) → AreTries fn f old n again f' new → new.words ≡ old.words
   tries_words keeps zero again f' new t = ap (λ (l : Lent). l.words) t.1
   tries_words keeps (suc n) again f' new t = try_words fn t.0 t.1 t.2 f' new keeps t.3 t.5 ∙ tries_words keeps n t.2 t.0 t.1 t.4
 
-  tries_body : KeepsBody fn → (n : ℕ) (again : Bool) (f' : F) (new : Lent) → AreTries fn f old n again f' new → f' ≡ f
+  pub tries_body : KeepsBody fn → (n : ℕ) (again : Bool) (f' : F) (new : Lent) → AreTries fn f old n again f' new → f' ≡ f
   tries_body steady zero again f' new t = t.0
   tries_body steady (suc n) again f' new t = try_body fn t.0 t.1 t.2 f' new steady t.3 t.5 ∙ tries_body steady n t.2 t.0 t.1 t.4
 
@@ -97,7 +97,7 @@ module _ {F R E : Type 0} (fn : Mut F (MutBor Lent × Unit {0}) (Result R (Stopp
     tried_failed why t = t
 
     ends_body : KeepsBody fn → (told : Tried R E) → EndsTries fn f old tries told f' new → f' ≡ f
-    ends_body steady told t = try_body fn t.body t.mid t.again f' new steady told t.last ∙ tries_body steady t.times t.again t.body t.mid t.before
+    ends_body steady told t = try_body fn t.body t.mid t.again f' new steady told t.last ∙ tries_body steady t.after.times t.again t.body t.mid t.after.before
 
     -- they leave the body as it was, where each run does
     pub tried_body : KeepsBody fn → (told : Result (Value R) (Failed E)) → HasTried fn f old tries told f' new → f' ≡ f
@@ -105,12 +105,21 @@ module _ {F R E : Type 0} (fn : Mut F (MutBor Lent × Unit {0}) (Result R (Stopp
     tried_body steady (Err failures.Tries) t = tries_body steady tries t.0 f' new t.1
     tried_body steady (Err why) t = ends_body steady (Fails why) t
 
+    ends_words : KeepsLent fn → (told : Tried R E) → EndsTries fn f old tries told f' new → new.words ≡ old.words
+    ends_words keeps told t = try_words fn t.body t.mid t.again f' new keeps told t.last ∙ tries_words keeps t.after.times t.again t.body t.mid t.after.before
+
+    -- and on the same words
+    pub tried_words : KeepsLent fn → (told : Result (Value R) (Failed E)) → HasTried fn f old tries told f' new → new.words ≡ old.words
+    tried_words keeps (Ok done) t = ends_words keeps (Done done) t
+    tried_words keeps (Err failures.Tries) t = tries_words keeps tries t.0 f' new t.1
+    tried_words keeps (Err why) t = ends_words keeps (Fails why) t
+
     ends_tells : (told : Tried R E) → EndsTries fn f old tries told f' new → Tells fn f old.words told new.thread
     ends_tells told t = record {
       body = t.body;
-      same = λ steady. tries_body steady t.times t.again t.body t.mid t.before;
+      same = λ steady. tries_body steady t.after.times t.again t.body t.mid t.after.before;
       old = t.mid;
-      here = λ keeps. tries_words keeps t.times t.again t.body t.mid t.before;
+      here = λ keeps. tries_words keeps t.after.times t.again t.body t.mid t.after.before;
       again = t.again;
       body' = f';
       words' = new.words;

@@ -46,12 +46,12 @@ pub use Rattle.shared_words.specs.InGlobal.{Words}
 pub use Rattle.shared_words.specs.Passes.{cells_of, Owns, view_of}
 pub use Rattle.shared_words.specs.declared.pass.Pass.{Pass}
 pub use Rattle.shared_words.specs.declared.view.View.{View}
-pub use Rattle.transactions.specs.Blocks.{block_told, CameToRun, EndsBlockBy, Enters, EntersNot, HasGoneBack, HasRunBlock, IsAsBefore, IsFresh, IsTakenBack, IsToldAgain, IsUndoneUnless, IsWithin, IsWithinStill, KeepsBlocks, Leaves, ReadsOn, StaysWithin, TellsBlock}
+pub use Rattle.transactions.specs.Blocks.{AreRunAgain, block_told, CameToRun, EndsBlockBy, EndsRuns, Enters, EntersNot, HasGoneBack, HasRunBlock, IsAsBefore, IsFresh, IsTakenBack, IsToldAgain, IsUndoneUnless, IsWithin, IsWithinStill, KeepsBlocks, Leaves, ReadsOn, StaysWithin, TellsBlock}
 pub use Rattle.transactions.specs.Folds.{Folds, HasFolded, KeepsWords, Steps}
 pub use Rattle.transactions.specs.Lent.{IsKept, IsLeft, Lent, looks_of, mine_of, seen_of}
-pub use Rattle.transactions.specs.Plain.{begun_at, block_of, Calls, calls_of, committed_at, Deed, IsPlain, IsPlainBlock, IsPlainIn, IsPlainRun, Makes, Makings, replies_of, state_with, Stays, TakesBack, with_gone}
-pub use Rattle.transactions.specs.Runs.{BeginTold, cancel_told, ComesTo, commit_told, EndsBy, HasBegun, HasLooked, IsCancelled, IsGivenUp, IsTry, KeepsBody, KeepsLent, LeavesLent, LeftBy, mine_left, mine_then, stop_told, usual}
-pub use Rattle.transactions.specs.Tries.{again_after, AreCancelled, AreTries, ComesAgain, EndsTries, HasRetried, HasTried}
+pub use Rattle.transactions.specs.Plain.{begun_at, block_of, Calls, calls_of, cancelled_of, Cancellings, committed_at, Deed, IsLastRun, IsPlain, IsPlainBack, IsPlainBackIn, IsPlainBlock, IsPlainIn, IsPlainRun, Makes, Makings, replies_of, state_with, Stays, TakesBack, with_gone}
+pub use Rattle.transactions.specs.Runs.{BeginTold, cancel_told, ComesTo, commit_told, EndsBy, HasBegun, HasEnded, HasLooked, IsCancelled, IsGivenUp, IsTry, KeepsBody, KeepsLent, LeavesLent, LeftBy, mine_left, mine_then, stop_told, usual}
+pub use Rattle.transactions.specs.Tries.{AfterCancelled, AfterTries, again_after, AreCancelled, AreTries, ComesAgain, EndsTries, HasRetried, HasTried}
 pub use Rattle.transactions.specs.Widths.{HasValue, number_16, number_32, number_8}
 pub use Rattle.transactions.specs.declared.failed.Failed.{Failed}
 pub use Rattle.transactions.specs.declared.stopped.Stopped.{Stopped}

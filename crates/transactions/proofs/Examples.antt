@@ -1,6 +1,6 @@
 -- Worked cases of the definitions, proved by computing.
-use Rattle.std.proofs.Common.{◌≡◌, [], ◌∷◌, refl}
-use Rattle.transactions.proofs.Common.{Action, Begin, Calls, Commit, CommitAction, Done, State, TakesBack, UndoAction, after, as_commit, as_undo, block_of, calls_of, opened, state_with, usual}
+use Rattle.std.proofs.Common.{◌≡◌, false, List, [], ◌∷◌, ◌++◌, refl}
+use Rattle.transactions.proofs.Common.{Abort, Action, Begin, Calls, Commit, CommitAction, Deed, Done, R, Read, State, TakesBack, U1, UndoAction, W, Write, after, as_commit, as_undo, block_of, bytes_reply, calls_of, cancelled_of, number_8, opened, replies, replies_of, state_with, usual}
 
 abbrev a : Action
 a = record { fun = 1; arg = 2 }
@@ -22,3 +22,16 @@ runs_again = refl
 -- the plain machine makes the calls of the last run alone
 last_calls : calls_of (block_of (a ∷ []) (Calls (UndoAction b) Done ∷ [])) ≡ Begin usual 0 ∷ UndoAction b ∷ Commit ∷ []
 last_calls = refl
+
+-- of a block that its body took back it makes the calls too: what was written there is gone, what was read there was so, and its undo action comes to run
+back_calls : calls_of (cancelled_of (a ∷ []) (Calls (UndoAction b) Done ∷ [])) ≡ Begin usual 0 ∷ UndoAction b ∷ Abort false ∷ []
+back_calls = refl
+
+abbrev made : List Deed
+made = Calls (Write W 0 (number_8 7)) Done ∷ Calls (Read R U1 0) (bytes_reply (7 ∷ [])) ∷ Calls (UndoAction b) Done ∷ []
+
+back_replies : replies_of (cancelled_of [] made ++ Calls (Read R U1 0) (bytes_reply (5 ∷ [])) ∷ []) ≡ replies 4 (opened (5 ∷ []) [] usual) (calls_of (cancelled_of [] made ++ Calls (Read R U1 0) (bytes_reply (5 ∷ [])) ∷ []))
+back_replies = refl
+
+back_actions : (after 4 (state_with 4 (opened (5 ∷ []) [] usual) (cancelled_of (a ∷ []) made)) Commit).actions.ran ≡ as_undo a ∷ as_undo b ∷ []
+back_actions = refl

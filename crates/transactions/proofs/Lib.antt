@@ -17,3 +17,4 @@ mod PlainBlocks
 pub mod Plain
 mod Chains
 mod Came
+mod PlainRuns

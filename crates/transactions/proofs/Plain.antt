@@ -1,6 +1,6 @@
 -- The calls of a transaction are the plain machine's, on every memory that agrees with what was read.
 use Rattle.std.proofs.Common.{◌≡◌, ◌∙◌, ◌⊎◌, inl, inr, ℕ, ◌/◌, ◌&&◌, not, if◌then◌else◌, Bool, true, false, List, [], ◌∷◌, ◌++◌, map, Option, None, Some, Result, Ok, Err, ap, refl, subst, sym, true≢false}
-use Rattle.transactions.proofs.Common.{Abort, Action, Agrees, Answer, Begin, Block, Call, CalledAtMut, Calls, Cancelled, Code, Commit, Copy, CopyPair, Core, Deed, EndsBy, Engine, Frame, GoesOn, GoesOver, HasBegun, IsAnswered, IsMemory, IsPlain, IsPlainRun, IsTakenBack, IsTry, KeepsBody, KeepsLent, LeftBy, Lent, Makes, Makings, Mode, Mut, MutBor, NoCommit, Out, Props, Refusal, Replied, Reply, Standing, Stands, Start, StartsWith, State, Stays, Stopped, TakesBack, Tried, UndoAction, Value, Words, after, after_unless, as_undo, back, begun_at, bytes_of, calls_of, came_over, commit_told, committed_at, effect, entered, in_transaction, irrevocable_from, is_inside, is_memory, is_open, left_over, memory_in, memory_of, on_answer, opened, outside, pushed, recoded, refusal, replies, replies_of, reply, reply_unless, rolled_back, source_bytes, stands_for, start_of, state_after, state_in, state_over, state_with, target_written, undone, undone_from, usual, view_of, with_action, with_gone}
+use Rattle.transactions.proofs.Common.{Abort, Action, Agrees, Answer, Begin, Block, Call, CalledAtMut, Calls, Cancelled, Code, Commit, Copy, CopyPair, Core, Deed, EndsBy, Engine, Frame, GoesOn, GoesOver, HasBegun, HasEnded, IsAnswered, IsMemory, IsPlain, IsPlainRun, IsTakenBack, IsTry, KeepsBody, LeftBy, Lent, Makes, Makings, Mode, Mut, MutBor, NoCommit, Out, Props, Refusal, Replied, Reply, Standing, Stands, Start, StartsWith, State, Stays, Stopped, TakesBack, Tried, UndoAction, Value, Words, after, after_unless, as_undo, back, begun_at, bytes_of, calls_of, came_over, commit_told, committed_at, effect, entered, in_transaction, irrevocable_from, is_inside, is_memory, is_open, left_over, memory_in, memory_of, on_answer, opened, outside, pushed, recoded, refusal, replies, replies_of, reply, reply_unless, rolled_back, source_bytes, stands_for, start_of, state_after, state_in, state_over, state_with, target_written, undone, undone_from, usual, view_of, with_action, with_gone}
 use Rattle.itm_types.specs.declared.call.ActionKind.TheVariants as kinds
 use Rattle.itm_types.specs.Calls.{is_abort}
 use Rattle.norec_core.specs.declared.answer.Answer.TheVariants as answers
@@ -8,7 +8,6 @@ use Rattle.write_set.specs.declared.row.Row.{Row}
 use Rattle.norec_core.{proofs.Logs.agrees_less, proofs.Replies.AnsweredEngines.told_plainly, proofs.Engines.Blocks.none_inside}
 use Rattle.itm_runtime.specs.declared.stop.Stop.TheVariants as stops
 use Rattle.transactions.specs.declared.tried.Tried.TheVariants.{Done}
-use Rattle.transactions.specs.Runs.{Tells}
 use Rattle.transactions.proofs.Looks.{engine_open}
 use Rattle.transactions.proofs.RanActions.{ran_as, same_after, same_left, same_replies}
 use Rattle.transactions.proofs.Tries.{is_other, not_cancelled, not_stopped, told_at}
@@ -159,7 +158,16 @@ pub record Begins (before : Standing) (began : Lent) : Type 0 where
   revocable : began.thread.engine.irrevocable ≡ false
   inside : in_transaction began.thread.engine ≡ true
   words_are : began.thread.engine.words ≡ before.engine.words
+  depth_is : began.thread.engine.depth ≡ before.engine.depth
+  arena_is : began.thread.engine.arena ≡ before.engine.arena
   state : (m : List ℕ) → IsMemory before.engine.words m → Agrees m began.thread.engine.log → stands_for began.thread.engine m ≡ opened (bytes_of m) before.engine.arena usual
+
+state_arena : (c : Core) (m : List ℕ) → (stands_for c m).arena ≡ c.arena
+state_arena c m = by_mode c.irrevocable
+  where
+    by_mode : (b : Bool) → (state_in b c.writes c.blocks c.arena c.actions m).arena ≡ c.arena
+    by_mode true = refl
+    by_mode false = refl
 
 opens_on : (before : Standing) (again : Bool) (answer : Answer) (began : Lent) (stood : Stands (view_of before.pass) before.engine) → in_transaction before.engine ≡ false → IsAnswered began.words (start_of before (Begin usual 0) again) answer began.thread.pass began.thread.engine → GoesOn answer → Begins before began
 opens_on before again answer began stood shut answered on = on_answer (λ (x : Answer). IsAnswered began.words (start_of before (Begin usual 0) again) x began.thread.pass began.thread.engine → Begins before began) answer on
@@ -174,20 +182,16 @@ opens_on before again answer began stood shut answered on = on_answer (λ (x : A
     let opened_over : (m : List ℕ) (r' : Replied) → r' ≡ recoded (Begin usual 0) (again && not (in_transaction t)) (reply t.depth (stands_for t m) (Begin usual 0)) → GoesOn (Reply r') → after t.depth (stands_for t m) (Begin usual 0) ≡ opened (bytes_of m) t.arena usual = λ m r' e on.
     unrefused (stands_for t m) (again && not (in_transaction t)) r' (refusal t.depth (stands_for t m) (Begin usual 0)) e on ∙ ap (λ (u : State). effect u (Begin usual 0)) (shut_state t m shut is unwritten) in
     let here = a.served.tells.here in
+    let opens = here.state ∙ opened_over (came_over s v e) r here.reply_is on in
     record {
       revocable = still;
-      inside = sym (engine_open e (left_over v e) still) ∙ ap is_open here.state ∙ ap is_open (opened_over (came_over s v e) r here.reply_is on);
+      inside = sym (engine_open e (left_over v e) still) ∙ ap is_open opens;
       words_are = a.served.words;
+      depth_is = a.served.limits.2;
+      arena_is = sym (state_arena e (left_over v e)) ∙ ap (λ (u : State). u.arena) opens;
       state = λ m fits agrees. let meets = a.served.tells.all is still m fits agrees in meets.state ∙ opened_over m r meets.reply_is on;
     })
     (λ at wrote a. absurd (subst NoCommit a.served.tells.call tt)) answered
-
-state_arena : (c : Core) (m : List ℕ) → (stands_for c m).arena ≡ c.arena
-state_arena c m = by_mode c.irrevocable
-  where
-    by_mode : (b : Bool) → (state_in b c.writes c.blocks c.arena c.actions m).arena ≡ c.arena
-    by_mode true = refl
-    by_mode false = refl
 
 -- ## The commit
 
@@ -205,8 +209,7 @@ law words before began made last at wrote w new begins makes a =
     let agrees : Agrees m last.engine.log = commits.closes.agrees commits.was_open in
     let comes = on.comes m (subst (λ n. IsMemory n m) (sym begins.words_are) fits) agrees in
     let opens = begins.state m fits comes.agrees in
-    let arena : before.engine.arena ≡ began.thread.engine.arena = sym (ap (λ (s : State). s.arena) opens) ∙ state_arena began.thread.engine m in
-    let begun : stands_for began.thread.engine m ≡ begun_at v at began.thread.engine.arena = opens ∙ ap (λ xs. opened (bytes_of m) xs usual) arena in
+    let begun : stands_for began.thread.engine m ≡ begun_at v at began.thread.engine.arena = opens ∙ ap (λ xs. opened (bytes_of m) xs usual) (sym begins.arena_is) in
     let deepest = began.thread.engine.depth in
     let came : came_over (start_of last Commit false) v e ≡ m = ap (λ (b : Bool). memory_in b (view_of last.pass) v (e.snapshot / 2)) on.revocable ∙ ap (memory_of v) (sym commits.closes.at_is) in
     let start = begun_at v at began.thread.engine.arena in
@@ -236,39 +239,49 @@ abbrev told_value : {R E : Type 0} → R → Tried R E → R
 told_value value (Done done) = done.value
 told_value value _ = value
 
-module _ {F R E : Type 0} (fn : Mut F (MutBor Lent × Unit {0}) (Result R (Stopped E) × (MutBor Lent × Unit {0}))) (makings : Makings fn) (passed : F) (first : Words) (done : Value R) (new : Standing) where
+-- a commit that is told as done is one, of the value that is told
+told_done : {R E : Type 0} (done : Value R) (value : R) (a : Answer) → Done done ≡ commit_told {R = R} {E = E} value a → (value ≡ done.value) × (a ≡ answers.Committed done.at done.wrote)
+told_done done value (answers.Committed at wrote) is = (sym (ap (told_value value) is), ap (λ n. answers.Committed n wrote) (sym (ap told_at is)) ∙ ap (λ b. answers.Committed done.at b) (sym (ap told_wrote is)))
+told_done done value a is = absurd (subst is_other is tt)
+
+module _ {F R E : Type 0} (fn : Mut F (MutBor Lent × Unit {0}) (Result R (Stopped E) × (MutBor Lent × Unit {0}))) (makings : Makings fn) (After : F → Lent → Bool → Type 0) (passed : F) (first : Words) (done : Value R) (new : Standing) where
   abbrev told : Tried R E
   told = Done done
 
-  module _ (before : Standing) (again : Bool) (answer : Answer) (began : Lent) (begins : HasBegun before again answer began) (here : began.words ≡ first) (body body' : F) (same : KeepsBody fn → body ≡ passed) (last : Lent) where
-    committed : (value : R) (a : Answer) (stood : Lent) → IsAnswered last.words (start_of last.thread Commit false) a stood.thread.pass stood.thread.engine → told ≡ commit_told value a → LeftBy a stood new → CalledAtMut fn body began (Ok value) body' last → IsPlainRun fn makings passed first done new
-    committed value (answers.Committed at wrote) stood answered e left runs =
-        let run : CalledAtMut fn body began (Ok done.value) body' last = subst (λ (x : R). CalledAtMut fn body began (Ok x) body' last) (sym (ap (told_value done.value) e)) runs in
+  module _ (body : F) (same : KeepsBody fn → body ≡ passed) (mid : Lent) (again : Bool) (after : After body mid again) (words : mid.words ≡ first) (body' : F) where
+    committed : (answer : Answer) (began : Lent) (begins : HasBegun mid.thread again answer began) → began.words ≡ mid.words → (last : Lent) (value : R) → CalledAtMut fn body began (Ok value) body' last → HasEnded last value told new → IsPlainRun fn makings After passed first done new
+    committed answer began begins here last value runs ends =
+        let so = told_done {E = E} done value ends.answer ends.told_is in
+        let run : CalledAtMut fn body began (Ok done.value) body' last = subst (λ (x : R). CalledAtMut fn body began (Ok x) body' last) so.0 runs in
         let made = makings body began done.value body' last run in
-        let a : IsAnswered last.words (start_of last.thread Commit false) (answers.Committed at wrote) new.pass new.engine =
-        subst (λ (t : Standing). IsAnswered last.words (start_of last.thread Commit false) (answers.Committed at wrote) t.pass t.engine) (sym left) answered in
-        let told_so : answers.Committed at wrote ≡ answers.Committed done.at done.wrote = ap (λ n. answers.Committed n wrote) (sym (ap told_at e)) ∙ ap (λ b. answers.Committed done.at b) (sym (ap told_wrote e)) in
+        let left : new ≡ ends.then.thread = subst (λ (x : Answer). LeftBy x ends.then new) so.1 ends.left in
+        let ended : IsAnswered last.words (start_of last.thread Commit false) (answers.Committed done.at done.wrote) new.pass new.engine =
+        subst (λ (x : Answer × Standing). IsAnswered last.words (start_of last.thread Commit false) x.0 x.1.pass x.1.engine) (λ i. (so.1 i, sym left i)) ends.answered in
+        let opens = opens_on mid.thread again answer began begins.stood begins.outside begins.answered begins.goes_on in
         record {
           body = body;
           same = same;
-          body' = body';
+          mid = mid;
+          again = again;
+          after = after;
+          answer = answer;
           began = began;
+          begins = begins;
+          here = here ∙ words;
+          depth_is = opens.depth_is;
+          arena_is = opens.arena_is;
+          body' = body';
           last = last;
-          here = here;
           runs = run;
-          plain = law began.words before began made.0 last.thread done.at done.wrote last.words new (opens_on before again answer began begins.stood begins.outside begins.answered begins.goes_on) made.1
-              (subst (λ (x : Answer). IsAnswered last.words (start_of last.thread Commit false) x new.pass new.engine) told_so a);
+          ends = subst (λ (x : R). HasEnded last x told new) so.0 ends;
+          plain = law began.words mid.thread began made.0 last.thread done.at done.wrote last.words new opens made.1 ended;
         }
-    committed value a stood answered e left runs = absurd (subst is_other e tt)
 
-    ran : (gives : Result R (Stopped E)) → CalledAtMut fn body began gives body' last → EndsBy gives last told new → IsPlainRun fn makings passed first done new
-    ran (Ok value) runs ends = committed value ends.answer ends.then ends.answered ends.told_is ends.left runs
-    ran (Err (Engine why)) runs ends = absurd (not_stopped told why (in_transaction last.thread.engine) ends.1 tt)
-    ran (Err (Cancelled why)) runs ends = absurd (not_cancelled told why (in_transaction last.thread.engine) ends.1 tt)
+    ran : (answer : Answer) (began : Lent) (begins : HasBegun mid.thread again answer began) → began.words ≡ mid.words → (last : Lent) (gives : Result R (Stopped E)) → CalledAtMut fn body began gives body' last → EndsBy gives last told new → IsPlainRun fn makings After passed first done new
+    ran answer began begins here last (Ok value) runs ends = committed answer began begins here last value runs ends
+    ran answer began begins here last (Err (Engine why)) runs ends = absurd (not_stopped told why (in_transaction last.thread.engine) ends.1 tt)
+    ran answer began begins here last (Err (Cancelled why)) runs ends = absurd (not_cancelled told why (in_transaction last.thread.engine) ends.1 tt)
 
-  tried_plain : (f : F) (old : Lent) (again : Bool) (f' : F) (words : Words) → old.words ≡ first → (KeepsBody fn → f ≡ passed) → IsTry fn f old again told f' (record { words = words; thread = new }) → IsPlainRun fn makings passed first done new
-  tried_plain f old again f' words here same (inl run) = ran old.thread again run.answer run.began run.begins (run.here ∙ here) f f' same run.last run.gives run.runs run.ends
-  tried_plain f old again f' words here same (inr none) = absurd (not_stopped told none.stop true none.told_is tt)
-
-  pub plain_run : (words : Words) → words ≡ first → (first_of : F) → (KeepsBody fn → first_of ≡ passed) → KeepsLent fn → Tells fn first_of words told new → IsPlainRun fn makings passed first done new
-  plain_run words is first_of same kept t = tried_plain t.body t.old t.again t.body' t.words' (t.here kept ∙ is) (λ steady. t.same steady ∙ same steady) t.tried
+    pub plain_run : (w : Words) → IsTry fn body mid again told body' (record { words = w; thread = new }) → IsPlainRun fn makings After passed first done new
+    plain_run w (inl run) = ran run.answer run.began run.begins run.here run.last run.gives run.runs run.ends
+    plain_run w (inr none) = absurd (not_stopped told none.stop true none.told_is tt)

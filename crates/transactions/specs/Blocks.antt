@@ -1,5 +1,5 @@
 -- Blocks within a transaction.
-use Rattle.std.specs.Prelude.{◌≡◌, ◌⊎◌, ◌≤◌, true, false, List, [], ◌∷◌, ◌++◌, length, map, Some, Result, Ok, Err}
+use Rattle.std.specs.Prelude.{◌≡◌, ◌⊎◌, ℕ, zero, suc, ◌<◌, ◌≤◌, true, false, List, [], ◌∷◌, ◌++◌, length, map, Some, Result, Ok, Err}
 use Rattle.std.specs.Borrow.{MutBor}
 use Rattle.std.specs.Fn.{CalledAtMut, Mut}
 use Rattle.itm_types.specs.declared.call.Action.{Action}
@@ -22,8 +22,8 @@ use Rattle.itm_runtime.specs.declared.stop.Stop.{Stop}
 use Rattle.itm_runtime.specs.declared.stop.Stop.TheVariants.{Refused, Restarted}
 use Rattle.transactions.specs.declared.stopped.Stopped.{Stopped}
 use Rattle.transactions.specs.declared.stopped.Stopped.TheVariants.{Engine, Cancelled}
-use Rattle.transactions.specs.Lent.{IsKept, Lent}
-use Rattle.transactions.specs.Runs.{KeepsBody, KeepsLent, usual}
+use Rattle.transactions.specs.Lent.{Lent}
+use Rattle.transactions.specs.Runs.{usual}
 
 -- ## What stays while a block is open
 
@@ -135,31 +135,38 @@ module _ {F R E : Type 0} (fn : Mut F (MutBor Lent × Unit {0}) (Result R (Stopp
   abbrev pub KeepsBlocks : Type 0
   KeepsBlocks = (f : F) (x : Lent) (r : Result R (Stopped E)) (f' : F) (x' : Lent) → CalledAtMut fn f x r f' x' → StaysWithin x x'
 
-  -- the block began, its body was run in it, the first one where bodies are left as they were, and it ended by what that gave
-  pub record HasRunBlock (first : F) (from : Lent) (told : Result (Result R E) Stop) (new : Lent) : Type 0 where
+  -- the block began, its body was run in it, and it ended by what that gave
+  pub record HasRunBlock (f : F) (from : Lent) (told : Result (Result R E) Stop) (f' : F) (new : Lent) : Type 0 where
     pub began : Lent
     pub enters : Enters from began
-    pub body : F
-    pub same : KeepsBody fn → body ≡ first
-    pub body' : F
     pub gives : Result R (Stopped E)
     pub last : Lent
-    pub runs : CalledAtMut fn body began gives body' last
+    pub runs : CalledAtMut fn f began gives f' last
     pub ends : EndsBlockBy gives last told new
 
-  -- it did not begin
-  pub record HasNotEntered (from : Lent) (told : Result (Result R E) Stop) (new : Lent) : Type 0 where
+  -- it did not begin, and its body was not run
+  pub record HasNotEntered (f : F) (from : Lent) (told : Result (Result R E) Stop) (f' : F) (new : Lent) : Type 0 where
     pub stop : Stop
     pub enters_not : EntersNot from stop new
+    pub not_run : f' ≡ f
     pub told_is : told ≡ Err stop
 
-  abbrev pub TellsBlock : F → Lent → Result (Result R E) Stop → Lent → Type 0
-  TellsBlock first from told new = HasRunBlock first from told new ⊎ HasNotEntered from told new
+  -- one run of the block is told so, and leaves the body and what was lent so
+  abbrev pub TellsBlock : F → Lent → Result (Result R E) Stop → F → Lent → Type 0
+  TellsBlock f from told f' new = HasRunBlock f from told f' new ⊎ HasNotEntered f from told f' new
 
-  -- its last run, of which this is told, began where nothing of the runs before it is left; where the block has gone back to its begin it was run again, unless the thread reads where it read before
-  pub record BlockComesTo (first : F) (old : Lent) (told : Result (Result R E) Stop) (new : Lent) : Type 0 where
+  -- ## Its runs in a row
+
+  -- n runs in order, each on what the one before left: each has gone back to its begin, and the thread reads later than it did
+  abbrev pub AreRunAgain : F → Lent → ℕ → F → Lent → Type 0
+  AreRunAgain f old zero f' new = (f' ≡ f) × (new ≡ old)
+  AreRunAgain f old (suc n) f' new = (g : F) × (mid : Lent) × (told : Result (Result R E) Stop) × AreRunAgain f old n g mid × TellsBlock g mid told f' new × IsToldAgain told × (mid.thread.engine.snapshot < new.thread.engine.snapshot)
+
+  -- after such runs the last one tells this. Where that one has gone back to its begin too, the thread reads no later than it did
+  pub record EndsRuns (f : F) (old : Lent) (told : Result (Result R E) Stop) (f' : F) (new : Lent) : Type 0 where
+    pub times : ℕ
+    pub body : F
     pub from : Lent
-    pub kept : KeepsLent fn → KeepsBlocks → IsKept old from
-    pub fresh : KeepsLent fn → KeepsBlocks → IsAsBefore old from
-    pub tells : TellsBlock first from told new
-    pub again : IsToldAgain told → new.thread.engine.snapshot ≤ from.thread.engine.snapshot
+    pub before : AreRunAgain f old times body from
+    pub last : TellsBlock body from told f' new
+    pub over : IsToldAgain told → new.thread.engine.snapshot ≤ from.thread.engine.snapshot

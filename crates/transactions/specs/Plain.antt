@@ -1,5 +1,5 @@
 -- What the calls of a transaction come to, whatever blocks of it were taken back: those of the plain machine, on the bytes that some first commits have left.
-use Rattle.std.specs.Prelude.{◌≡◌, ℕ, suc, ◌<◌, ◌≤◌, Bool, true, false, List, [], ◌∷◌, ◌++◌, length, map, Result, Ok}
+use Rattle.std.specs.Prelude.{◌≡◌, ℕ, suc, ◌<◌, ◌≤◌, Bool, true, false, List, [], ◌∷◌, ◌++◌, length, map, Result, Ok, Err}
 use Rattle.std.specs.Borrow.{MutBor}
 use Rattle.std.specs.Fn.{CalledAtMut, Mut}
 use Rattle.itm_types.specs.declared.call.Action.{Action}
@@ -12,6 +12,7 @@ use Rattle.itm_model.specs.Machine.{after, opened}
 use Rattle.itm_model.specs.Runs.{replies, state_after}
 use Rattle.itm_model.specs.State.{State}
 use Rattle.user_actions.specs.Actions.{as_undo}
+use Rattle.norec_core.specs.declared.answer.Answer.{Answer}
 use Rattle.norec_core.specs.declared.answer.Answer.TheVariants.{Reply}
 use Rattle.norec_core.specs.Core.{in_transaction}
 use Rattle.shared_words.specs.InGlobal.{Words}
@@ -21,11 +22,13 @@ use Rattle.call_rules.specs.CallResults.{IsAnswered}
 use Rattle.call_rules.specs.Standing.{Standing, start_of}
 use Rattle.call_rules.specs.Ties.{memory_of}
 use Rattle.transactions.specs.declared.stopped.Stopped.{Stopped}
+use Rattle.transactions.specs.declared.stopped.Stopped.TheVariants.{Cancelled}
 use Rattle.transactions.specs.declared.tried.Done.{Done as Value}
+use Rattle.transactions.specs.declared.tried.Tried.TheVariants.{Done as Told}
 use Rattle.itm_runtime.specs.declared.stop.Stop.{Stop}
 use Rattle.transactions.specs.Lent.{Lent}
-use Rattle.transactions.specs.Blocks.{IsTakenBack}
-use Rattle.transactions.specs.Runs.{KeepsBody, usual}
+use Rattle.transactions.specs.Blocks.{AreRunAgain, Enters, IsTakenBack}
+use Rattle.transactions.specs.Runs.{HasBegun, HasEnded, KeepsBody, usual}
 
 -- the call leaves a transaction open and revocable: of an abort its caller says that some block is open still
 abbrev pub Stays : Call → Standing → Type 0
@@ -34,7 +37,7 @@ Stays (Abort outer) new = in_transaction new.engine ≡ true
 Stays (Mode room) new = ⊥
 Stays call new = Unit {0}
 
--- what a body does: a call, with its reply; or blocks that it began and that were taken back, with the undo actions that came to run by that
+-- what a body does: a call, with its reply; or blocks that it began and of whose calls nothing is told, as they were taken back, with the undo actions that came to run by that
 pub data Deed : Type 0 where
   Calls : Call → Replied → Deed
   TakesBack : List Action → Deed
@@ -58,6 +61,10 @@ replies_of (TakesBack gone ∷ rest) = replies_of rest
 -- the deeds of a block that gave a value: what its runs before that one left, its begin, what its body did, and its commit
 abbrev pub block_of : List Action → List Deed → List Deed
 block_of gone made = TakesBack gone ∷ Calls (Begin usual 0) (Code 5) ∷ (made ++ Calls Commit Done ∷ [])
+
+-- and of one that its body took back: it ends with its abort
+abbrev pub cancelled_of : List Action → List Deed → List Deed
+cancelled_of gone made = TakesBack gone ∷ Calls (Begin usual 0) (Code 5) ∷ (made ++ Calls (Abort false) (Code 24) ∷ [])
 
 -- these undo actions have come to run
 abbrev pub with_gone : State → List Action → State
@@ -91,30 +98,65 @@ module _ {F R E : Type 0} (fn : Mut F (MutBor Lent × Unit {0}) (Result R (Stopp
   abbrev pub Makings : Type 0
   Makings = (f : F) (x : Lent) (value : R) (f' : F) (x' : Lent) → CalledAtMut fn f x (Ok value) f' x' → (made : List Deed) × Makes x.words x.thread made x'.thread
 
-  -- the value that is told was given by a run whose calls are the plain machine's at the position told; the body is the first one where bodies are left as they were
-  pub record IsPlainRun (makings : Makings) (first : F) (words : Words) (done : Value R) (new : Standing) : Type 0 where
+  -- and what each run does that takes its block back
+  abbrev pub Cancellings : Type 0
+  Cancellings = (f : F) (x : Lent) (why : E) (f' : F) (x' : Lent) → CalledAtMut fn f x (Err (Cancelled why)) f' x' → (made : List Deed) × Makes x.words x.thread made x'.thread
+
+  -- The value that is told was given by a run whose transaction began and committed just before and after it, and whose calls are the plain machine's at the position told. What came before its begin was so; the body is the first one where bodies are left as they were.
+  pub record IsPlainRun (makings : Makings) (After : F → Lent → Bool → Type 0) (first : F) (words : Words) (done : Value R) (new : Standing) : Type 0 where
     pub body : F
     pub same : KeepsBody fn → body ≡ first
-    pub body' : F
+    pub mid : Lent
+    pub again : Bool
+    pub after : After body mid again
+    pub answer : Answer
     pub began : Lent
-    pub last : Lent
+    pub begins : HasBegun mid.thread again answer began
     pub here : began.words ≡ words
+    pub depth_is : began.thread.engine.depth ≡ mid.thread.engine.depth
+    pub arena_is : began.thread.engine.arena ≡ mid.thread.engine.arena
+    pub body' : F
+    pub last : Lent
     pub runs : CalledAtMut fn body began (Ok done.value) body' last
+    pub ends : HasEnded {E = E} last done.value (Told done) new
     pub plain : IsPlain began.thread.engine.depth began.thread.engine.arena (makings body began done.value body' last runs).0 done.at done.wrote new
 
-  -- a block's value was given by a run whose deeds are, with the begin before them and the commit after them, those of the thread, but for the runs before it; the body is the first one where bodies are left as they were
+  -- a block's last run, after those that were told again, gave what it gave in a run of its body that had just begun
+  pub record IsLastRun (first : F) (old : Lent) (gives : Result R (Stopped E)) (body : F) (began : Lent) (body' : F) (last : Lent) : Type 0 where
+    pub times : ℕ
+    pub from : Lent
+    pub before : AreRunAgain fn first old times body from
+    pub enters : Enters from began
+    pub here : began.words ≡ old.words
+    pub same : KeepsBody fn → body ≡ first
+    pub runs : CalledAtMut fn body began gives body' last
+
+  -- a block's value was given by a run whose deeds are, with the begin before them and the commit after them, those of the thread, but for the runs before it
   pub record IsPlainBlock (makings : Makings) (first : F) (old : Lent) (value : R) (new : Lent) : Type 0 where
     pub gone : List Action
     pub body : F
-    pub same : KeepsBody fn → body ≡ first
-    pub body' : F
     pub began : Lent
+    pub body' : F
     pub last : Lent
-    pub here : began.words ≡ old.words
-    pub runs : CalledAtMut fn body began (Ok value) body' last
-    pub makes : Makes old.words old.thread (block_of gone (makings body began value body' last runs).0) new.thread
+    pub run : IsLastRun first old (Ok value) body began body' last
+    pub makes : Makes old.words old.thread (block_of gone (makings body began value body' last run.runs).0) new.thread
+
+  -- so it is with a run that took the block back, and the abort after it
+  pub record IsPlainBack (cancellings : Cancellings) (first : F) (old : Lent) (why : E) (new : Lent) : Type 0 where
+    pub gone : List Action
+    pub body : F
+    pub began : Lent
+    pub body' : F
+    pub last : Lent
+    pub run : IsLastRun first old (Err (Cancelled why)) body began body' last
+    pub makes : Makes old.words old.thread (cancelled_of gone (cancellings body began why body' last run.runs).0) new.thread
 
   -- where the block gave a value
   abbrev pub IsPlainIn : Makings → F → Lent → Result (Result R E) Stop → Lent → Type 0
   IsPlainIn makings first old (Ok (Ok value)) new = IsPlainBlock makings first old value new
   IsPlainIn makings first old told new = Unit {0}
+
+  -- where its body took it back
+  abbrev pub IsPlainBackIn : Cancellings → F → Lent → Result (Result R E) Stop → Lent → Type 0
+  IsPlainBackIn cancellings first old (Ok (Err why)) new = IsPlainBack cancellings first old why new
+  IsPlainBackIn cancellings first old told new = Unit {0}

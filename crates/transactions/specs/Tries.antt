@@ -29,14 +29,18 @@ module _ {F R E : Type 0} (fn : Mut F (MutBor Lent × Unit {0}) (Result R (Stopp
   AreTries f old zero again f' new = (f' ≡ f) × (new ≡ old) × (again ≡ false)
   AreTries f old (suc n) again f' new = (g : F) × (mid : Lent) × (was : Bool) × (told : Tried R E) × AreTries f old n was g mid × IsTry fn g mid was told f' new × ComesAgain told × (again ≡ again_after was told)
 
-  -- after some tries, fewer than there may be, the next one is told so
-  pub record EndsTries (f : F) (old : Lent) (tries : ℕ) (told : Tried R E) (f' : F) (new : Lent) : Type 0 where
+  -- some tries were made, fewer than there may be, after each of which another one comes
+  pub record AfterTries (f : F) (old : Lent) (tries : ℕ) (f' : F) (new : Lent) (again : Bool) : Type 0 where
     pub times : ℕ
     pub fewer : times < tries
+    pub before : AreTries f old times again f' new
+
+  -- after such tries the next one is told so
+  pub record EndsTries (f : F) (old : Lent) (tries : ℕ) (told : Tried R E) (f' : F) (new : Lent) : Type 0 where
     pub body : F
     pub mid : Lent
     pub again : Bool
-    pub before : AreTries f old times again body mid
+    pub after : AfterTries f old tries body mid again
     pub last : IsTry fn body mid again told f' new
 
   -- the tries of a body, so many at most, come to this: what the first one is told as after which none comes, or `Tries` where another one comes after each of them
@@ -49,6 +53,15 @@ module _ {F R E : Type 0} (fn : Mut F (MutBor Lent × Unit {0}) (Result R (Stopp
   abbrev pub AreCancelled : F → Lent → ℕ → ℕ → F → Lent → Type 0
   AreCancelled f old tries zero f' new = (f' ≡ f) × (new ≡ old)
   AreCancelled f old tries (suc n) f' new = (g : F) × (mid : Lent) × (why : E) × AreCancelled f old tries n g mid × HasTried g mid tries (Err (failures.Cancelled why)) f' new
+
+  -- transactions were made that the body cancelled, no more of them than so many, and then some tries of the next one
+  pub record AfterCancelled (f : F) (old : Lent) (tries retries : ℕ) (f' : F) (new : Lent) (again : Bool) : Type 0 where
+    pub times : ℕ
+    pub most : times ≤ retries
+    pub next : F
+    pub mid : Lent
+    pub before : AreCancelled f old tries times next mid
+    pub after : AfterTries next mid tries f' new again
 
   -- after transactions that the body cancelled, no more of them than so many, the next one comes to this; where the body cancelled that one too, there were as many before it
   pub record HasRetried (f : F) (old : Lent) (tries retries : ℕ) (told : Result (Value R) (Failed E)) (f' : F) (new : Lent) : Type 0 where

@@ -31,9 +31,9 @@ fn told_taken_back<R, E: Drop>(why: E, left: Result<(), Stop>) -> Result<Result<
 
 impl Transaction {
     ghost use Rattle.transactions.specs.Lent.{IsKept};
-    ghost use Rattle.transactions.specs.Plain.{IsPlainIn, Makings};
-    ghost use Rattle.transactions.specs.Runs.{KeepsBody, KeepsLent};
-    ghost use Rattle.transactions.specs.Blocks.{BlockComesTo, Enters, EntersNot, IsToldAgain, IsUndoneUnless, KeepsBlocks, Leaves, StaysWithin, TellsBlock};
+    ghost use Rattle.transactions.specs.Plain.{Cancellings, IsPlainBackIn, IsPlainIn, Makings};
+    ghost use Rattle.transactions.specs.Runs.{KeepsLent};
+    ghost use Rattle.transactions.specs.Blocks.{EndsRuns, Enters, EntersNot, IsToldAgain, IsUndoneUnless, KeepsBlocks, Leaves, StaysWithin, TellsBlock};
 
     /// Runs the body as a block within the transaction. Where the body takes it back, by `Err(Stopped::Cancelled(why))`, nothing
     /// of the block is left, and the transaction goes on: `Ok(Err(why))`. Where another commit changed what the block alone has
@@ -43,12 +43,17 @@ impl Transaction {
         mut body: F,
     ) -> Result<Result<R, E>, Stop>
         requires callable { F.IsAlwaysCallable body }
-        ensures comes { BlockComesTo F.FnMut body self.old result self.new }
+
+        // All its runs in order: what it tells is what the first one came to after which none comes.
+        ensures ran { (last : F) × EndsRuns F.FnMut body self.old result last self.new }
         ensures kept { KeepsLent F.FnMut → KeepsBlocks F.FnMut → IsKept self.old self.new }
         ensures within { KeepsLent F.FnMut → KeepsBlocks F.FnMut → StaysWithin self.old self.new }
 
         // Where it is known what each run does that gives a value, the deeds of the block are its transaction's.
         ensures plain { KeepsLent F.FnMut → KeepsBlocks F.FnMut → (makings : Makings F.FnMut) → IsPlainIn F.FnMut makings body self.old result self.new }
+
+        // So are those of a block that its body took back, where that is known of each such run: what it has read there counts.
+        ensures plain_back { KeepsLent F.FnMut → KeepsBlocks F.FnMut → (cancellings : Cancellings F.FnMut) → IsPlainBackIn F.FnMut cancellings body self.old result self.new }
 
         // Unless the body gave a value, nothing of the block is left, and the blocks around it are as before.
         ensures undone { KeepsLent F.FnMut → KeepsBlocks F.FnMut → IsUndoneUnless result self.old self.new }
@@ -82,8 +87,7 @@ impl Transaction {
     ) -> Result<Result<R, E>, Stop>
         requires callable { F.IsAlwaysCallable body.old }
         ensures callable { F.IsAlwaysCallable body.new }
-        ensures tells { TellsBlock F.FnMut body.old self.old result self.new }
-        ensures same { KeepsBody F.FnMut → body.new ≡ body.old }
+        ensures tells { TellsBlock F.FnMut body.old self.old result body.new self.new }
     {
         self.enter()?;
         match body(self) {

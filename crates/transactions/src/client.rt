@@ -26,7 +26,7 @@ impl Client {
     ghost use Rattle.transactions.specs.Lent.{looks_of};
     ghost use Rattle.transactions.specs.Plain.{IsPlainRun, Makings};
     ghost use Rattle.transactions.specs.Runs.{ComesTo, IsCancelled, KeepsLent, LeavesLent};
-    ghost use Rattle.transactions.specs.Tries.{HasTried};
+    ghost use Rattle.transactions.specs.Tries.{AfterTries, HasTried};
 
     /// A thread outside a transaction, over the words that own its pass. Each body is tried as often as `tries` says.
     pub fn new(words: Arc<Words>, thread: Thread, tries: u64) -> Client
@@ -71,8 +71,8 @@ impl Client {
         ensures comes { ComesTo F.FnMut body self.old.transaction.words result self.new.transaction.thread }
 
         // Where it is known what each run does, the calls of the run that gave the value are the plain machine's at the position
-        // told.
-        ensures plain { KeepsLent F.FnMut → (makings : Makings F.FnMut) → IfOk result (λ done. IsPlainRun F.FnMut makings body self.old.transaction.words done self.new.transaction.thread) }
+        // told. It is the try that came after all others.
+        ensures plain { KeepsLent F.FnMut → (makings : Makings F.FnMut) → IfOk result (λ done. IsPlainRun F.FnMut makings (AfterTries F.FnMut body self.old.transaction self.old.tries) body self.old.transaction.words done self.new.transaction.thread) }
 
         // The body hands back what it was lent: the words are the same, the pass's own commits are those told, and the position
         // told is no less than the number of the commits that its thread had seen before. It gives up for want of tries after so

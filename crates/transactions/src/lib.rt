@@ -4,6 +4,7 @@
 mod block;
 mod bytes;
 mod client;
+mod equality;
 mod failed;
 mod folding;
 mod stopped;

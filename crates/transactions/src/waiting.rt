@@ -14,7 +14,7 @@ impl Client {
     ghost use Rattle.transactions.specs.Lent.{looks_of};
     ghost use Rattle.transactions.specs.Plain.{IsPlainRun, Makings};
     ghost use Rattle.transactions.specs.Runs.{ComesTo, KeepsLent, LeavesLent};
-    ghost use Rattle.transactions.specs.Tries.{HasRetried};
+    ghost use Rattle.transactions.specs.Tries.{AfterCancelled, HasRetried};
 
     /// Runs the body as `atomically` does, and, where the body has cancelled it, as a new transaction, at most so many times
     /// more. So a body waits for what other threads are to commit: it cancels until it finds that. It tells what the last
@@ -31,8 +31,8 @@ impl Client {
         ensures comes { ComesTo F.FnMut body self.old.transaction.words result self.new.transaction.thread }
 
         // Where it is known what each run does, the calls of the run that gave the value are the plain machine's at the position
-        // told.
-        ensures plain { KeepsLent F.FnMut → (makings : Makings F.FnMut) → IfOk result (λ done. IsPlainRun F.FnMut makings body self.old.transaction.words done self.new.transaction.thread) }
+        // told. It is the try that came after all others.
+        ensures plain { KeepsLent F.FnMut → (makings : Makings F.FnMut) → IfOk result (λ done. IsPlainRun F.FnMut makings (AfterCancelled F.FnMut body self.old.transaction self.old.tries retries) body self.old.transaction.words done self.new.transaction.thread) }
 
         // The body hands back what it was lent: the words are the same, the pass's own commits are those told, and the position
         // told is no less than the number of the commits that its thread had seen before. It gives up for want of tries after so

@@ -42,9 +42,9 @@ module _ {F R E : Type 0} (fn : Mut F (MutBor Lent × Unit {0}) (Result R (Stopp
   makings_of : Made → Makings fn
   makings_of made f x value f' x' run = let m = made_at made f x value f' x' run in (m.made, m.makes)
 
-  pub all_led : Made → KeepsBody fn → (first : F) (words : Words) (r : Result (Done R) (Failed E)) (new : Standing) → ((makings : Makings fn) → IfOk r (λ done. IsPlainRun fn makings first words done new)) → IfOk r (λ done. HasLed writes (So first) done new)
+  pub all_led : Made → KeepsBody fn → (After : F → Lent → Bool → Type 0) (first : F) (words : Words) (r : Result (Done R) (Failed E)) (new : Standing) → ((makings : Makings fn) → IfOk r (λ done. IsPlainRun fn makings After first words done new)) → IfOk r (λ done. HasLed writes (So first) done new)
   unfolding makings_of
-  all_led made steady first words r new plain =
+  all_led made steady After first words r new plain =
       IfOk-weaker r _ _ (λ done run.
       let x = made_at made run.body run.began done.value run.body' run.last run.runs in
       subst (λ (f : F). HasLed writes (So f) done new) (run.same steady)

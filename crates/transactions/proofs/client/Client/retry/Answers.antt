@@ -1,7 +1,8 @@
 use Rattle.std.proofs.Common.{◌∙◌, arith, rules}
-use Rattle.transactions.proofs.Came.{came_first, kept_cancelled, plain_of}
+use Rattle.transactions.proofs.Came.{came_first, kept_cancelled}
 use Rattle.transactions.proofs.Chains.{came_of, cancelled_more, lent_after, retried, tried_body}
 use Rattle.transactions.proofs.BlockOutcomes.{kept_twice}
+use Rattle.transactions.proofs.PlainRuns.{plain_retried}
 use Rattle.transactions.proofs.client.Client.retry.Goals as goal
 
 pub returns-then-not-is_cancelled-clause-ran : goal.returns-then-not-is_cancelled-clause-ran
@@ -26,7 +27,7 @@ pub returns-then-not-is_cancelled-clause-comes : goal.returns-then-not-is_cancel
 returns-then-not-is_cancelled-clause-comes g c = came_first g.F.FnMut c.loop.self.transaction.words c.args.self.now.transaction.words (λ keeps. (c.loop.invariant.1 keeps).0.words) c.loop.body c.args.body c.loop.invariant.4 c.run-told.result c.run-told.new.self.transaction.thread (came_of g.F.FnMut c.loop.body c.loop.self.transaction c.loop.self.tries c.run-told.new.body c.run-told.new.self.transaction c.run-told.result c.run-told.ensures.ran)
 
 pub returns-then-not-is_cancelled-clause-plain : goal.returns-then-not-is_cancelled-clause-plain
-returns-then-not-is_cancelled-clause-plain g c keeps makings = plain_of g.F.FnMut makings c.args.body c.args.self.now.transaction.words keeps c.run-told.result c.run-told.new.self.transaction.thread (came_first g.F.FnMut c.loop.self.transaction.words c.args.self.now.transaction.words (λ keeps. (c.loop.invariant.1 keeps).0.words) c.loop.body c.args.body c.loop.invariant.4 c.run-told.result c.run-told.new.self.transaction.thread (came_of g.F.FnMut c.loop.body c.loop.self.transaction c.loop.self.tries c.run-told.new.body c.run-told.new.self.transaction c.run-told.result c.run-told.ensures.ran))
+returns-then-not-is_cancelled-clause-plain g c keeps makings = (let ran = returns-then-not-is_cancelled-clause-ran g c in plain_retried g.F.FnMut makings keeps c.args.self.now.tries ran.0 c.run-told.new.self.transaction c.args.body c.args.self.now.transaction c.args.retries c.run-told.result ran.1)
 
 pub returns-then-not-is_cancelled-clause-waited : goal.returns-then-not-is_cancelled-clause-waited
 returns-then-not-is_cancelled-clause-waited g c keeps is = absurd (c.is_cancelled.ensures.no (search rules) is)
@@ -35,7 +36,7 @@ pub returns-clause-comes : goal.returns-clause-comes
 returns-clause-comes g c = came_first g.F.FnMut c.loop.self.transaction.words c.args.self.now.transaction.words (λ keeps. (c.loop.invariant.1 keeps).0.words) c.loop.body c.args.body c.loop.invariant.4 c.run.result c.run.new.self.transaction.thread (came_of g.F.FnMut c.loop.body c.loop.self.transaction c.loop.self.tries c.run.new.body c.run.new.self.transaction c.run.result c.run.ensures.ran)
 
 pub returns-clause-plain : goal.returns-clause-plain
-returns-clause-plain g c keeps makings = plain_of g.F.FnMut makings c.args.body c.args.self.now.transaction.words keeps c.run.result c.run.new.self.transaction.thread (came_first g.F.FnMut c.loop.self.transaction.words c.args.self.now.transaction.words (λ keeps. (c.loop.invariant.1 keeps).0.words) c.loop.body c.args.body c.loop.invariant.4 c.run.result c.run.new.self.transaction.thread (came_of g.F.FnMut c.loop.body c.loop.self.transaction c.loop.self.tries c.run.new.body c.run.new.self.transaction c.run.result c.run.ensures.ran))
+returns-clause-plain g c keeps makings = (let ran = returns-clause-ran g c in plain_retried g.F.FnMut makings keeps c.args.self.now.tries ran.0 c.run.new.self.transaction c.args.body c.args.self.now.transaction c.args.retries c.run.result ran.1)
 
 pub returns-clause-waited : goal.returns-clause-waited
 returns-clause-waited g c keeps is =

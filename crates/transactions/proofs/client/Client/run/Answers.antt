@@ -8,23 +8,19 @@ use Rattle.transactions.proofs.client.Client.run.Goals.{in-Conflict, in-Busy}
 
 pub returns-in-Done-clause-ran : goal.returns-in-Done-clause-ran
 returns-in-Done-clause-ran g c = record {
-  times = c.loop.counter;
-  fewer = omega (arith, c.loop-test.true, c.loop.invariant.2);
   body = c.loop.body;
   mid = c.loop.self.transaction;
   again = c.loop.again;
-  before = c.loop.invariant.4;
+  after = record { times = c.loop.counter; fewer = omega (arith, c.loop-test.true, c.loop.invariant.2); before = c.loop.invariant.4 };
   last = c.in-Done.ensures.tells;
 }
 
 pub returns-in-Failed-clause-ran : goal.returns-in-Failed-clause-ran
 returns-in-Failed-clause-ran g c = tried_failed g.F.FnMut c.args.body.now c.args.self.now.transaction c.args.self.now.tries c.attempt.new.body c.attempt.new.self c.in-Failed.why (record {
-  times = c.loop.counter;
-  fewer = omega (arith, c.loop-test.true, c.loop.invariant.2);
   body = c.loop.body;
   mid = c.loop.self.transaction;
   again = c.loop.again;
-  before = c.loop.invariant.4;
+  after = record { times = c.loop.counter; fewer = omega (arith, c.loop-test.true, c.loop.invariant.2); before = c.loop.invariant.4 };
   last = c.in-Failed.ensures.tells;
 })
 
