@@ -13,12 +13,13 @@ static void reset_more(void) {
     tx.plain = tx.fixed = tx.engine_inner = tx.tries = 0;
     tx.inner.used = tx.undo.used = tx.commits.used = tx.undos.used = tx.fresh.used = 0;
     tx.fresh_top = 0;
+    tx.fresh_first = tx.fresh_end = 0;
     tx.foreign_page = tx.outermost.id = 0;
     tx.serial = tx.has_more = false;
 }
 
 static inline void end_try(void) {
-    tx.fast = 0;
+    tx.fast = tx.fast_behind = 0;
     __atomic_store_n(&tx.depth, 0, __ATOMIC_RELEASE);
     tx.ended++;
 }

@@ -90,7 +90,7 @@ struct tx {
     struct block outermost;
     int depth;                   /* so many blocks are open, */
     int plain;                   /* and within the innermost one so many that are not gone back to */
-    uintptr_t fast;              /* so many bytes of the region need no further question: all or none */
+    uintptr_t fast;              /* so many bytes of the region need no further question: none, or all up to what is fresh, */
     struct itm_c_thread *engine; /* its handle, its own or one that is lent, or none */
     uint64_t ended;              /* so many tries, however they ended */
     bool has_more;               /* what follows is not as a begin finds it */
@@ -100,8 +100,10 @@ struct tx {
     int tries;
     struct list inner; /* struct block: those within the outermost one */
     struct list undo, commits, undos;
-    struct list fresh; /* of memory.c, with the top of its tree */
+    struct list fresh; /* of memory.c, with the top of its tree, */
     uint32_t fresh_top;
+    uintptr_t fresh_first, fresh_end; /* the places in the region between which all of it lies, */
+    uintptr_t fast_behind;            /* and so many bytes from that end on that need no further question */
     /* of threads.c and foreign.c */
     struct itm_c_thread own_engine;
     struct memory stack, tls;
@@ -180,9 +182,25 @@ static inline void allow_fast(void) {
     if (LIKELY(!is_within((uintptr_t)tx.outermost.registers.sp, &region))) tx.fast = region.size;
 }
 
+/* What is fresh is looked up between the first and the last of it alone. */
 static inline void set_fast(void) {
-    tx.fast = 0;
-    if (!tx.fresh.used && !logs_shared()) allow_fast();
+    tx.fast = tx.fast_behind = 0;
+    if (!logs_shared()) allow_fast();
+    if (tx.fast && tx.fresh_end) {
+        tx.fast = tx.fresh_first;
+        tx.fast_behind = region.size - tx.fresh_end;
+    }
+}
+
+/* Of a part of one word, or a word. (What is fresh is taken to begin and end with a word.) */
+static inline bool is_fast(uintptr_t place) {
+    return LIKELY(place < tx.fast) || place - tx.fresh_end < tx.fast_behind;
+}
+
+static inline bool are_fast(uintptr_t place, size_t size) {
+    if (place < tx.fast) return tx.fast - place >= size;
+    place -= tx.fresh_end;
+    return place < tx.fast_behind && tx.fast_behind - place >= size;
 }
 
 /* -- memory.c -- */
@@ -198,6 +216,7 @@ void drop_fresh(const struct block *);
 
 void read_bytes(const void *from, void *to, size_t size);
 void write_bytes(void *to, const void *from, size_t size);
+void read_shared(char *to, uint64_t place, size_t size);
 void write_shared(uint64_t place, const char *from, size_t size);
 
 #pragma GCC visibility pop

@@ -31,13 +31,16 @@ static uint64_t drawn(const struct fresh *f) {
     return n ^ n >> 32;
 }
 
-static bool is_fresh(uintptr_t at) {
-    for (uint32_t number = tx.fresh_top; number;) {
-        struct fresh *f = numbered(number);
-        if (is_within(at, &f->memory)) return true;
-        number = *side(f, at);
-    }
-    return false;
+/* The number of the block in which an address lies, if that is fresh. */
+static uint32_t fresh_at(uintptr_t at) {
+    uint32_t number = tx.fresh_top;
+    while (number && !is_within(at, &numbered(number)->memory)) number = *side(numbered(number), at);
+    return number;
+}
+
+/* It is released where the innermost block goes back, so nobody sees what stood in it. */
+static bool is_new(uintptr_t at) {
+    return fresh_at(at) > block_at(tx.depth - 1)->fresh / sizeof(struct fresh);
 }
 
 /* What was in its place goes to its two sides. */
@@ -51,6 +54,14 @@ static void split(uint32_t number, struct fresh *new) {
     *below = *above = 0;
 }
 
+/* Where all of it lies in the region, from word to word. It stays so where a block goes back: too wide is not wrong. */
+static void widen(const struct memory *m) {
+    if (!in_region((void *)m->at, m->size)) return;
+    uintptr_t first = (m->at - region.at) & -8, end = (m->at + m->size - region.at + 7) & -8;
+    if (!tx.fresh_end || first < tx.fresh_first) tx.fresh_first = first;
+    if (end > tx.fresh_end) tx.fresh_end = end;
+}
+
 void add_fresh(void *p, size_t size, void (*release)(void *)) {
     struct fresh *new = list_add(&tx.fresh, sizeof *new);
     *new = (struct fresh){{(uintptr_t)p, size ? size : 1}, release, 0, 0};
@@ -58,6 +69,7 @@ void add_fresh(void *p, size_t size, void (*release)(void *)) {
     while (*link && drawn(numbered(*link)) >= drawn(new)) link = side(numbered(*link), new->memory.at);
     split(*link, new);
     *link = tx.fresh.used / sizeof *new;
+    widen(&new->memory);
     set_fast();
 }
 
@@ -87,7 +99,7 @@ void drop_fresh(const struct block *b) {
         if (b->fresh) take_out(number);
     }
     tx.fresh.used = b->fresh;
-    if (!b->fresh) tx.fresh_top = 0;
+    if (!b->fresh) tx.fresh_top = tx.fresh_first = tx.fresh_end = 0;
 }
 
 /* -- kinds -- */
@@ -96,7 +108,7 @@ void drop_fresh(const struct block *b) {
 enum kind kind_of(const void *p, size_t size) {
     uintptr_t at = (uintptr_t)p;
     if (is_frame(at, tx.outermost.registers.sp)) return OWN;
-    if (tx.fresh.used && is_fresh(at)) return OWN;
+    if (fresh_at(at)) return OWN;
     if (in_region(p, size)) return SHARED;
     if (is_within(at, &tx.stack) || is_within(at, &tx.tls))
         return __atomic_load_n(&tx.is_shared, __ATOMIC_RELAXED) ? FOREIGN : OWN;
@@ -124,7 +136,7 @@ static int blocks_above(uintptr_t at) {
 void log_bytes(const void *p, size_t size) {
     if (!size || tx.depth <= tx.fixed) return;
     int frames = blocks_above((uintptr_t)p);
-    if (frames == tx.depth) return;
+    if (frames == tx.depth || is_new((uintptr_t)p)) return;
     char *to = list_add(&tx.undo, padded(size) + sizeof(struct undo));
     memcpy(to, p, size);
     *(struct undo *)(to + padded(size)) = (struct undo){{(uintptr_t)p, size}, frames};
