@@ -107,11 +107,12 @@ uint32_t itm_c_write2(struct itm_c_thread *thread, uint64_t at, uint16_t value);
 uint32_t itm_c_write1(struct itm_c_thread *thread, uint64_t at, uint8_t value);
 
 /* Copies so many bytes of the words to others, all as before the call; where it does not move, the two ranges have no byte
- * in common. ITM_C_DONE, CONFLICT, MEMORY, REFUSED. */
+ * in common. ITM_C_DONE, CONFLICT, MEMORY, REFUSED.
+ * Reads and writes of 8 bytes do the same in fewer instructions. */
 uint32_t itm_c_copy(struct itm_c_thread *thread, uint64_t to, uint64_t from, uint64_t size, bool moves);
 
 /* Sets so many bytes of the words to the low 8 bits of `byte`. ITM_C_DONE, CONFLICT, MEMORY, REFUSED.
- * The bytes are not read. */
+ * The bytes are not read. Writes of 8 bytes do the same in fewer instructions. */
 uint32_t itm_c_fill(struct itm_c_thread *thread, uint64_t to, uint64_t byte, uint64_t size);
 
 #endif

@@ -90,7 +90,7 @@ struct tx {
     struct block outermost;
     int depth;                   /* so many blocks are open, */
     int plain;                   /* and within the innermost one so many that are not gone back to */
-    uintptr_t fast;              /* so many bytes of the region need no further question: none, or all up to what is fresh, */
+    uintptr_t fast;              /* so many bytes of the region are shared for sure: none, or all up to what is fresh, */
     struct itm_c_thread *engine; /* its handle, its own or one that is lent, or none */
     uint64_t ended;              /* so many tries, however they ended */
     bool has_more;               /* what follows is not as a begin finds it */
@@ -103,7 +103,7 @@ struct tx {
     struct list fresh; /* of memory.c, with the top of its tree, */
     uint32_t fresh_top;
     uintptr_t fresh_first, fresh_end; /* the places in the region between which all of it lies, */
-    uintptr_t fast_behind;            /* and so many bytes from that end on that need no further question */
+    uintptr_t fast_behind;            /* and so many bytes behind that are shared for sure */
     /* of threads.c and foreign.c */
     struct itm_c_thread own_engine;
     struct memory stack, tls;
