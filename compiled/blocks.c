@@ -13,7 +13,8 @@ static void reset_more(void) {
     tx.plain = tx.fixed = tx.engine_inner = tx.tries = 0;
     tx.inner.used = tx.undo.used = tx.commits.used = tx.undos.used = tx.fresh.used = 0;
     tx.fresh_top = 0;
-    tx.fresh_first = tx.fresh_end = 0;
+    tx.fresh_first = tx.fresh_end = tx.seen = tx.witnesses = 0;
+    tx.has_unseen = false;
     tx.foreign_page = tx.outermost.id = 0;
     tx.serial = tx.has_more = false;
 }

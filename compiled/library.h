@@ -104,6 +104,9 @@ struct tx {
     uint32_t fresh_top;
     uintptr_t fresh_first, fresh_end; /* the places in the region between which all of it lies, */
     uintptr_t fast_behind;            /* and so many bytes behind that are shared for sure */
+    bool has_unseen; /* it was given memory, and may not have seen who freed that */
+    uint64_t seen;   /* all commits below this clock it has seen */
+    size_t witnesses; /* so many words it has read to see them */
     /* of threads.c and foreign.c */
     struct itm_c_thread own_engine;
     struct memory stack, tls;
@@ -185,7 +188,7 @@ static inline void allow_fast(void) {
 /* What is fresh is looked up between the first and the last of it alone. */
 static inline void set_fast(void) {
     tx.fast = tx.fast_behind = 0;
-    if (!logs_shared()) allow_fast();
+    if (!logs_shared() && !tx.has_unseen) allow_fast();
     if (tx.fast && tx.fresh_end) {
         tx.fast = tx.fresh_first;
         tx.fast_behind = region.size - tx.fresh_end;
@@ -211,6 +214,7 @@ void log_bytes(const void *p, size_t size);
 void undo_to(int target);
 void add_fresh(void *p, size_t size, void (*release)(void *));
 void drop_fresh(const struct block *);
+void find_witnesses(void);
 
 /* -- barriers.c -- */
 

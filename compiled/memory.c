@@ -70,6 +70,7 @@ void add_fresh(void *p, size_t size, void (*release)(void *)) {
     split(*link, new);
     *link = tx.fresh.used / sizeof *new;
     widen(&new->memory);
+    tx.has_unseen = !tx.serial;
     set_fast();
 }
 
@@ -102,11 +103,36 @@ void drop_fresh(const struct block *b) {
     if (!b->fresh) tx.fresh_top = tx.fresh_first = tx.fresh_end = 0;
 }
 
+/* -- what the transaction is given was freed by a commit that it may not have seen, and may be a node that it still finds in
+ * shared memory. Before it uses anything further it has to see that commit: then all that it has read holds after it, or it
+ * runs again. It sees all commits by the read of a word that it has not read, if the clock has moved. -- */
+
+enum { MOST_WITNESSES = 1024 };
+static uint64_t *witness;
+
+void find_witnesses(void) {
+    witness = __libc_malloc(MOST_WITNESSES * sizeof *witness);
+    if (!witness) fail("no memory for transactions");
+}
+
+static void see_commits(void) {
+    uint64_t clock = __atomic_load_n(the_clock(), __ATOMIC_ACQUIRE);
+    bool has_witnesses = in_region(witness, MOST_WITNESSES * sizeof *witness);
+    if (has_witnesses && clock != tx.seen) {
+        if (tx.witnesses == MOST_WITNESSES) become_serial();
+        served(itm_c_read8(tx.engine, (uintptr_t)&witness[tx.witnesses++] - region.at).code);
+        tx.seen = clock + (clock & 1);
+    }
+    tx.has_unseen = false;
+    set_fast();
+}
+
 /* -- kinds -- */
 
 /* Of an open transaction. A stack may lie in the region: then it is shared but for the transaction's own frames. */
 enum kind kind_of(const void *p, size_t size) {
     uintptr_t at = (uintptr_t)p;
+    if (UNLIKELY(tx.has_unseen)) see_commits();
     if (is_frame(at, tx.outermost.registers.sp)) return OWN;
     if (fresh_at(at)) return OWN;
     if (in_region(p, size)) return SHARED;

@@ -85,6 +85,7 @@ void find_region(void) {
     }
     size_t size = (end - clock) & -8;
     region = (struct memory){clock + 8, (size < most_bytes ? size : most_bytes) - 8};
+    find_witnesses();
     is_verbose = getenv("ITM_VERBOSE");
     if (is_verbose)
         fprintf(stderr, "libitm (Sofjundel): region %p, %zu MiB\n", (void *)region.at, region.size / MIB);
