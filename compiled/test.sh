@@ -31,7 +31,7 @@ few) mode=few levels=2 thread_counts=4 long=0 ;;
 esac
 # few of them, which touch each part of the library
 few='counters words nested relaxed names actions locals heap_list stacks ends foreign contended own_stack thread_local in_turn
-     loads late vacation labyrinth coroutine_nested fork_many new_replaced trim undo_tx'
+     loads late vacation labyrinth coroutine_nested fork_many new_replaced trim undo_tx reused'
 
 work=$(mktemp -d) || exit 1
 trap 'rm -rf "$work"' EXIT
