@@ -104,8 +104,8 @@ struct tx {
     uint32_t fresh_top;
     uintptr_t fresh_first, fresh_end; /* the places in the region between which all of it lies, */
     uintptr_t fast_behind;            /* and so many bytes behind that are shared for sure */
-    bool has_unseen; /* it was given memory, and may not have seen who freed that */
-    uint64_t seen;   /* all commits below this clock it has seen */
+    bool has_unseen;  /* it was given memory, and may not have seen who freed that */
+    uint64_t seen;    /* all commits below this clock it has seen */
     size_t witnesses; /* so many words it has read to see them */
     /* of threads.c and foreign.c */
     struct itm_c_thread own_engine;
